@@ -1,0 +1,29 @@
+-- What a call on an object of the outside leaves of its count of faults and of the bytes that it tells.
+use Rattle.std.specs.Prelude.{◌≡◌, ℕ, ◌+◌, ◌-◌, ◌^◌, ◌≤◌, min, List, [], ◌++◌, OnErr, Option, Some, None, Result}
+
+-- The count rose, or stands at its last value.
+abbrev pub Rose : ℕ → ℕ → Type 0
+Rose before now = min (before + 1) (2 ^ 64 - 1) ≤ now
+
+-- The count doesn't fall, and an error is answered only where it rose.
+pub record HasCause {T E : Type 0} (before now : ℕ) (result : Result T E) : Type 0 where
+  pub later : before ≤ now
+  pub failed : OnErr result (Rose before now)
+
+-- Where an object tells after a call, it told before it, and what it told before and after has P.
+abbrev pub WhereTold : Option (List ℕ) → Option (List ℕ) → (List ℕ → List ℕ → Type 0) → Type 0
+WhereTold old None P = Unit {0}
+WhereTold None (Some now) P = ⊥
+WhereTold (Some before) (Some now) P = P before now
+
+-- These bytes were taken from the front of what was left.
+abbrev pub Takes : List ℕ → Option (List ℕ) → Option (List ℕ) → Type 0
+Takes bytes old new = WhereTold old new (λ before now. before ≡ bytes ++ now)
+
+-- These bytes were put behind what was taken before.
+abbrev pub Puts : List ℕ → Option (List ℕ) → Option (List ℕ) → Type 0
+Puts bytes old new = WhereTold old new (λ before now. now ≡ before ++ bytes)
+
+-- A front of these bytes was put behind what was taken before.
+abbrev pub PutsFront : List ℕ → Option (List ℕ) → Option (List ℕ) → Type 0
+PutsFront bytes old new = WhereTold old new (λ before now. (front : List ℕ) × ((rest : List ℕ) × (bytes ≡ front ++ rest) × (now ≡ before ++ front)))
