@@ -1,1 +1,9 @@
-
+pub mod Negotiation
+pub mod Occurring
+pub mod Data
+pub mod Cases
+pub mod Joining
+pub mod Expression
+pub mod Diagram
+pub mod Summary
+pub mod Laws

@@ -1,0 +1,76 @@
+-- The relation of an outcome on joint data, by its cases.
+use Rattle.std.specs.Prelude.{ℕ, ◌+◌, ◌-◌, min, Bool, true, false, not, ◌&&◌, ◌==◌, nat_lt, nat_le, if◌then◌else◌, List, [], ◌∷◌, ◌++◌, map, filter, slice_index, Option, Some, None}
+use Rattle.std.specs.List.{list_any, list_all, range_with_len}
+use Rattle.nego_base.specs.declared.op.Op.{Op}
+use Rattle.nego_base.specs.declared.op.Op.TheVariants.{Eq, Ne, Lt, Le, Gt, Ge}
+use Rattle.nego_model.specs.declared.cases.Operand.{Operand}
+use Rattle.nego_model.specs.declared.cases.Operand.TheVariants as operands
+use Rattle.nego_model.specs.declared.cases.Term.{Term}
+use Rattle.nego_model.specs.declared.cases.Term.TheVariants as terms
+use Rattle.nego_model.specs.declared.cases.Test.{Test}
+use Rattle.nego_model.specs.declared.cases.Set.{Set}
+use Rattle.nego_model.specs.declared.cases.Case.{Case}
+use Rattle.nego_model.specs.Data.{all_of, split}
+
+-- whether the comparison of two numbers holds
+abbrev pub compares : Op → ℕ → ℕ → Bool
+compares Eq a b = a == b
+compares Ne a b = not (a == b)
+compares Lt a b = nat_lt a b
+compares Le a b = nat_le a b
+compares Gt a b = nat_lt b a
+compares Ge a b = nat_le b a
+
+-- the number on the right of a comparison
+abbrev pub operand_value : Operand → List ℕ → ℕ
+operand_value (operands.Number n) values = n
+operand_value (operands.Value b) values = slice_index values b.0
+
+-- whether a comparison holds of these values
+abbrev pub test_holds : Test → List ℕ → Bool
+test_holds test values = compares test.op (slice_index values test.agent.0) (operand_value test.right values)
+
+-- whether an agent of this size may have the value after it was assigned the term
+abbrev pub gives : Term → ℕ → List ℕ → ℕ → Bool
+gives terms.Any size values value = nat_lt value size
+gives (terms.Number n) size values value = value == n
+gives (terms.Plus b n) size values value = value == min (slice_index values b.0 + n) (size - 1)
+gives (terms.Minus b n) size values value = value == min (slice_index values b.0 - n) (size - 1)
+
+-- what is assigned to the agent
+abbrev pub term_for : List Set → ℕ → Option Term
+term_for [] a = None
+term_for (set ∷ sets) a = if set.agent.0 == a then Some set.term else term_for sets a
+
+-- A case covers values of which all its comparisons hold.
+abbrev pub covers : Case → List ℕ → Bool
+covers case values = list_all (λ test. test_holds test values) case.tests
+
+-- whether an agent of this size that is assigned this, or nothing, may have the value after `old`
+abbrev pub agent_follows : Option Term → ℕ → List ℕ → ℕ → ℕ → Bool
+agent_follows None size values old new = new == old
+agent_follows (Some term) size values old new = gives term size values new
+
+-- whether the agents from a on, of these sizes, follow the assignments
+abbrev pub agents_follow : ℕ → List ℕ → List Set → List ℕ → List ℕ → Bool
+agents_follow a [] sets old new = true
+agents_follow a (size ∷ sizes) sets old new =
+    agent_follows (term_for sets a) size old (slice_index old a) (slice_index new a) && agents_follow (a + 1) sizes sets old new
+
+-- Whether a case relates values to values: it covers the first, each agent that it assigns has its term's value,
+-- and every other agent the value as before.
+abbrev pub case_relates : List ℕ → Case → List ℕ → List ℕ → Bool
+case_relates sizes case old new = covers case old && agents_follow 0 sizes case.sets old new
+
+-- whether the cases relate joint data to joint data
+abbrev pub relates : List ℕ → List Case → ℕ → ℕ → Bool
+relates sizes cases d e =
+    nat_lt d (all_of sizes) && (nat_lt e (all_of sizes) && list_any (λ case. case_relates sizes case (split sizes d) (split sizes e)) cases)
+
+-- all joint data, rising
+abbrev pub all_data : List ℕ → List ℕ
+all_data sizes = range_with_len 0 (all_of sizes)
+
+-- for each joint data the rising list of those to which the cases relate it
+unfoldable pub rows_of : List ℕ → List Case → List (List ℕ)
+rows_of sizes cases = map (λ d. filter (relates sizes cases d) (all_data sizes)) (all_data sizes)

@@ -1,0 +1,38 @@
+-- Expressions over outcomes, and the relation that they mean.
+use Rattle.std.specs.Prelude.{◌≡◌, ◌⊎◌, ℕ, ◌<◌, ◌==◌, List, [], ◌∷◌, reverse, length, MatchBool}
+use Rattle.nego_model.specs.Joining.{Relation}
+
+-- a node of an expression: an outcome, or one or two nodes of smaller numbers
+pub data PlainNode : Type 0 where
+  Base : ℕ → PlainNode
+  Join : ℕ → ℕ → PlainNode
+  Then : ℕ → ℕ → PlainNode
+  Star : ℕ → PlainNode
+
+-- the nodes that a node is made of
+abbrev pub children : PlainNode → List ℕ
+children (Base o) = []
+children (Join x y) = x ∷ y ∷ []
+children (Then x y) = x ∷ y ∷ []
+children (Star x) = x ∷ []
+
+-- The path begins behind d and ends with e, and all neighbours are related.
+abbrev pub IsPath : (ℕ → ℕ → Type 0) → ℕ → List ℕ → ℕ → Type 0
+IsPath relation d [] e = d ≡ e
+IsPath relation d (c ∷ cs) e = relation d c × IsPath relation c cs e
+
+-- What a node relates, where `older` says what the nodes before it relate.
+abbrev pub NodeMeans : Relation → Relation → PlainNode → ℕ → ℕ → Type 0
+NodeMeans base older (Base o) d e = base o d e
+NodeMeans base older (Join x y) d e = older x d e ⊎ older y d e
+NodeMeans base older (Then x y) d e = (c : ℕ) × older x d c × older y c e
+NodeMeans base older (Star x) d e = (path : List ℕ) × IsPath (older x) d path e
+
+-- What node i relates, of nodes of which the newest is first.
+abbrev pub MeansAmong : Relation → List PlainNode → Relation
+MeansAmong base [] i d e = ⊥
+MeansAmong base (node ∷ older) i d e = MatchBool (i == length older) (NodeMeans base (MeansAmong base older) node d e) (MeansAmong base older i d e)
+
+-- What node i relates, of nodes in their order.
+abbrev pub Means : Relation → List PlainNode → Relation
+Means base nodes i d e = MeansAmong base (reverse nodes) i d e

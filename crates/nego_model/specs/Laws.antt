@@ -1,0 +1,20 @@
+-- Laws over the definitions, each proved as the clause of a public function.
+use Rattle.std.specs.Prelude.{◌≡◌, ◌↔◌, ℕ, ◌<◌, List, [], ◌∷◌, ◌++◌, length}
+use Rattle.nego_model.specs.Negotiation.{Negotiation, IsNegotiation}
+use Rattle.nego_model.specs.Occurring.{Occurrence, IsComplete}
+use Rattle.nego_model.specs.Joining.{RelationTest, By, Joins, EndsWith}
+use Rattle.nego_model.specs.Expression.{PlainNode, Means}
+
+-- A complete run isn't empty, and its last entry is of the last atom.
+abbrev pub CompleteRunsEndWithTheLastAtom : Type 0
+CompleteRunsEndWithTheLastAtom = (net : Negotiation) (run : List Occurrence) → IsNegotiation net → IsComplete net run → (o : ℕ) × EndsWith run (net.last, o)
+
+-- Two runs, one after the other, join what they join through some data between.
+abbrev pub JoinsThroughBetween : Type 0
+JoinsThroughBetween = (test : RelationTest) (front rest : List Occurrence) (d e : ℕ) →
+    Joins (By test) (front ++ rest) d e ↔ ((c : ℕ) × Joins (By test) front d c × Joins (By test) rest c e)
+
+-- A node that is added at the end changes the meaning of no other.
+abbrev pub OlderNodesKeepTheirMeaning : Type 0
+OlderNodesKeepTheirMeaning = (test : RelationTest) (nodes : List PlainNode) (node : PlainNode) (i d e : ℕ) → i < length nodes →
+    Means (By test) (nodes ++ node ∷ []) i d e ↔ Means (By test) nodes i d e
