@@ -1,5 +1,8 @@
 ghost use Rattle.std.specs.Prelude.{◌≡◌, ◌==◌, ◌+◌, ◌-◌, ◌<◌, ◌≤◌, ◌↔◌, [], ◌∷◌, ◌++◌, length, take, OnOk, OnErr, IfOk, IsSome, slice_get, slice_set, insert, remove, swap};
+ghost use Rattle.std.specs.List.Sorted.{IsPermutation, IsSorted, IsStable, IsSortedByKeyClosure, IsStableByKeyClosure};
 ghost use Rattle.std.specs.Option.{option_copied, option_to_list};
+
+mod views;
 
 use crate::Memory;
 use std::alloc::Global;
@@ -171,6 +174,18 @@ impl<T> Seq<T> {
         self.items.clear();
     }
 
+    /// Puts the items in the order of their keys; items of equal keys stay in the order that they have.
+    pub fn sort_by_key<K: Ord + Drop, F: FnMut(&T) -> K>(&mut self, key: F) -> Result<(), Memory>
+        requires { F.IsAlwaysCallable key }
+        ensures items { IsPermutation self.old self.new }
+        ensures sorted { OnOk result (IsSortedByKeyClosure F.FnMut K.cmp key self.new) }
+        ensures stable { IsStableByKeyClosure F.FnMut K.cmp key self.old self.new }
+        ensures err { OnErr result (self.new ≡ self.old) }
+    {
+        self.items.sort_by_key(key)?;
+        Ok(())
+    }
+
     /// Moves the items of the other list to the end. On refusal both are as before.
     pub fn append(&mut self, other: &mut Seq<T>) -> Result<(), Memory>
         ensures ok { OnOk result (self.new ≡ self.old ++ other.old) }
@@ -208,5 +223,18 @@ impl Seq<u8> {
         ensures { IfOk result (λ t. t ≡ bytes.now) }
     {
         Seq::copy_of(alloc, bytes)
+    }
+}
+
+impl<T: Ord> Seq<T> {
+    /// Puts the items in order; equal ones stay in the order that they have.
+    pub fn sort(&mut self) -> Result<(), Memory>
+        ensures items { IsPermutation self.old self.new }
+        ensures sorted { OnOk result (IsSorted T.cmp self.new) }
+        ensures stable { IsStable T.cmp self.old self.new }
+        ensures err { OnErr result (self.new ≡ self.old) }
+    {
+        self.items.sort()?;
+        Ok(())
     }
 }
