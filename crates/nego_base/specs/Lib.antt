@@ -1,1 +1,3 @@
+pub mod Lends
 pub mod Members
+pub mod Name
