@@ -1,3 +1,4 @@
 pub mod Lends
+pub mod Lines
 pub mod Members
 pub mod Name
