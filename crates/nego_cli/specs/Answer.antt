@@ -8,7 +8,7 @@ use Rattle.nego_cli.specs.declared.refusal.Refusal.{Refusal}
 use Rattle.nego_cli.specs.declared.refusal.Refusal.TheVariants as refusals
 use Rattle.nego_cli.specs.declared.status.Status.{Status}
 use Rattle.nego_cli.specs.declared.status.Status.TheVariants as statuses
-use Rattle.nego_cli.specs.declared.nego.TheConstants.{PART_LIMIT}
+use Rattle.nego_cli.specs.declared.top.TheConstants.{PART_LIMIT}
 use Rattle.nego_cli.specs.Small.{SmallForm, IsSmall, small_text, diagram_of, summary_of}
 use Rattle.nego_cli.specs.Texts.{reduction_text, usage_line, refusal_line, read_fault_line, write_fault_line, memory_line}
 
