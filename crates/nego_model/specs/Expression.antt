@@ -1,5 +1,5 @@
 -- Expressions over outcomes, and the relation that they mean.
-use Rattle.std.specs.Prelude.{◌≡◌, ◌⊎◌, ℕ, ◌<◌, ◌==◌, List, [], ◌∷◌, reverse, length, MatchBool}
+use Rattle.std.specs.Prelude.{◌≡◌, ◌⊎◌, ℕ, ◌==◌, List, [], ◌∷◌, reverse, length, MatchBool}
 use Rattle.nego_model.specs.Joining.{Relation}
 
 -- a node of an expression: an outcome, or one or two nodes of smaller numbers

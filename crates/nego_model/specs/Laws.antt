@@ -1,5 +1,5 @@
 -- Laws over the definitions, each proved as the clause of a public function.
-use Rattle.std.specs.Prelude.{◌≡◌, ◌↔◌, ℕ, ◌<◌, List, [], ◌∷◌, ◌++◌, length}
+use Rattle.std.specs.Prelude.{◌↔◌, ℕ, ◌<◌, List, [], ◌∷◌, ◌++◌, length}
 use Rattle.nego_model.specs.Negotiation.{Negotiation, IsNegotiation}
 use Rattle.nego_model.specs.Occurring.{Occurrence, IsComplete}
 use Rattle.nego_model.specs.Joining.{RelationTest, By, Joins, EndsWith}

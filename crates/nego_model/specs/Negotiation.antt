@@ -1,6 +1,6 @@
 -- A negotiation: what may be asked of its form. Agents are the numbers below a count. Atoms and outcomes have
 -- numbers of their own, so that a negotiation from which some were taken is one too.
-use Rattle.std.specs.Prelude.{◌≡◌, ◌≢◌, ◌⊎◌, ℕ, ◌+◌, ◌<◌, Bool, ◌&&◌, List, [], ◌∷◌, IsTrue}
+use Rattle.std.specs.Prelude.{◌≡◌, ◌≢◌, ◌⊎◌, ℕ, ◌<◌, List, [], ◌∷◌, IsTrue}
 use Rattle.nego_base.specs.Members.{is_in}
 
 -- the count of agents; the atoms' numbers; an atom's parties; the numbers of an atom's outcomes, in their order;
