@@ -26,11 +26,11 @@ Along_between relation (step ∷ front) rest d (c ∷ all) h =
 
 -- nothing joins data to themselves
 pub Joins-empty : (relation : Relation) (d : ℕ) → Joins relation [] d d
-Joins-empty relation d = record { data' = []; along = tt; ends = refl }
+Joins-empty relation d = record { behind = []; along = tt; ends = refl }
 
 -- nothing joins data to no other
 pub same_from_empty : (relation : Relation) (d e : ℕ) → Joins relation [] d e → d ≡ e
-same_from_empty relation d e h = go h.data' h.along h.ends
+same_from_empty relation d e h = go h.behind h.along h.ends
   where
     go : (ds : List ℕ) → Along relation [] d ds → last_of d ds ≡ e → d ≡ e
     go [] a q = q
@@ -38,32 +38,32 @@ same_from_empty relation d e h = go h.data' h.along h.ends
 
 -- an occurrence that relates data to data, and steps that join these to others
 pub Joins_first : (relation : Relation) (step : Occurrence) (steps : List Occurrence) (d c e : ℕ) → relation step.1 d c → Joins relation steps c e → Joins relation (step ∷ steps) d e
-Joins_first relation step steps d c e h k = record { data' = c ∷ k.data'; along = (h, k.along); ends = k.ends }
+Joins_first relation step steps d c e h k = record { behind = c ∷ k.behind; along = (h, k.along); ends = k.ends }
 
 -- the data after the first occurrence
 pub joins_from_first : (relation : Relation) (step : Occurrence) (steps : List Occurrence) (d e : ℕ) → Joins relation (step ∷ steps) d e → (c : ℕ) × relation step.1 d c × Joins relation steps c e
-joins_from_first relation step steps d e h = go h.data' h.along h.ends
+joins_from_first relation step steps d e h = go h.behind h.along h.ends
   where
     go : (ds : List ℕ) → Along relation (step ∷ steps) d ds → last_of d ds ≡ e → (c : ℕ) × relation step.1 d c × Joins relation steps c e
     go [] a q = absurd a
-    go (c ∷ ds) a q = (c, a.0, record { data' = ds; along = a.1; ends = q })
+    go (c ∷ ds) a q = (c, a.0, record { behind = ds; along = a.1; ends = q })
 
 -- steps that join, and then steps that join
 pub Joins_through : (relation : Relation) (front rest : List Occurrence) (d c e : ℕ) → Joins relation front d c → Joins relation rest c e → Joins relation (front ++ rest) d e
 Joins_through relation front rest d c e h k = record {
-  data' = h.data' ++ k.data';
-  along = Along-append relation front rest d h.data' k.data' h.along (subst (λ x. Along relation rest x k.data') (sym h.ends) k.along);
-  ends = last_of-append d h.data' k.data' ∙ (ap (λ x. last_of x k.data') h.ends ∙ k.ends);
+  behind = h.behind ++ k.behind;
+  along = Along-append relation front rest d h.behind k.behind h.along (subst (λ x. Along relation rest x k.behind) (sym h.ends) k.along);
+  ends = last_of-append d h.behind k.behind ∙ (ap (λ x. last_of x k.behind) h.ends ∙ k.ends);
 }
 
 -- the data between steps and steps
 pub joins_between : (relation : Relation) (front rest : List Occurrence) (d e : ℕ) → Joins relation (front ++ rest) d e → (c : ℕ) × Joins relation front d c × Joins relation rest c e
 joins_between relation front rest d e h =
-    let k = Along_between relation front rest d h.data' h.along in (
+    let k = Along_between relation front rest d h.behind h.along in (
       last_of d k.0,
-      record { data' = k.0; along = k.3; ends = refl },
+      record { behind = k.0; along = k.3; ends = refl },
       record {
-        data' = k.1;
+        behind = k.1;
         along = k.4;
         ends = sym (last_of-append d k.0 k.1) ∙ (ap (last_of d) (sym k.2) ∙ h.ends);
       },

@@ -5,16 +5,16 @@ use Rattle.std.proofs.lemmas.List.{ext_get_or, get_or-replicate, length-replicat
 use Rattle.std.specs.List.{list_all}
 use Rattle.nego_base.specs.Members.{is_in}
 use Rattle.nego_model.specs.Negotiation.{Negotiation}
-use Rattle.nego_model.specs.Occurring.{AgentsReady, ready, moved, enables}
+use Rattle.nego_model.specs.Occurring.{PlainMarking, ready, moved, enables}
 use Rattle.nego_model.proofs.Members.{all_at, all_from}
 
 -- as many agents are there after a move as before
-pub length-moved : (a : ℕ) (parties : List ℕ) (next : ℕ → List ℕ) (marking : AgentsReady) → length (moved a parties next marking) ≡ length marking
+pub length-moved : (a : ℕ) (parties : List ℕ) (next : ℕ → List ℕ) (marking : PlainMarking) → length (moved a parties next marking) ≡ length marking
 length-moved a parties next [] = refl
 length-moved a parties next (here ∷ rest) = ap suc (length-moved (a + 1) parties next rest)
 
 -- what the agent at a place is ready for after a move, where agents are numbered from n on
-pub ready-moved_from : (n : ℕ) (parties : List ℕ) (next : ℕ → List ℕ) (marking : AgentsReady) (a : ℕ) → a < length marking →
+pub ready-moved_from : (n : ℕ) (parties : List ℕ) (next : ℕ → List ℕ) (marking : PlainMarking) (a : ℕ) → a < length marking →
     ready (moved n parties next marking) a ≡ cond (is_in (n + a) parties) (next (n + a)) (ready marking a)
 ready-moved_from n parties next [] a h = absurd (let k : ⊥ = omega (arith, h) in k)
 ready-moved_from n parties next (here ∷ rest) zero h = rw add-zero refl
@@ -24,7 +24,7 @@ ready-moved_from n parties next (here ∷ rest) (suc a) h =
     (ready-moved_from (n + 1) parties next rest a (le_of_suc-le-suc h))
 
 -- what an agent is ready for after a move
-pub ready-moved : (parties : List ℕ) (next : ℕ → List ℕ) (marking : AgentsReady) (a : ℕ) → a < length marking →
+pub ready-moved : (parties : List ℕ) (next : ℕ → List ℕ) (marking : PlainMarking) (a : ℕ) → a < length marking →
     ready (moved 0 parties next marking) a ≡ cond (is_in a parties) (next a) (ready marking a)
 ready-moved parties next marking a h =
     let e : 0 + a ≡ a = omega arith in
@@ -32,19 +32,19 @@ ready-moved parties next marking a h =
     (ready-moved_from 0 parties next marking a h)
 
 -- a party that has moved is ready for its next atoms
-pub ready-moved_party : (parties : List ℕ) (next : ℕ → List ℕ) (marking : AgentsReady) (a : ℕ) → a < length marking →
+pub ready-moved_party : (parties : List ℕ) (next : ℕ → List ℕ) (marking : PlainMarking) (a : ℕ) → a < length marking →
     IsTrue (is_in a parties) → ready (moved 0 parties next marking) a ≡ next a
 ready-moved_party parties next marking a h p =
     ready-moved parties next marking a h ∙ cond-true (is_in a parties) (next a) (ready marking a) p
 
 -- who is no party is ready for the same as before
-pub ready-moved_other : (parties : List ℕ) (next : ℕ → List ℕ) (marking : AgentsReady) (a : ℕ) → a < length marking →
+pub ready-moved_other : (parties : List ℕ) (next : ℕ → List ℕ) (marking : PlainMarking) (a : ℕ) → a < length marking →
     ¬ IsTrue (is_in a parties) → ready (moved 0 parties next marking) a ≡ ready marking a
 ready-moved_other parties next marking a h p =
     ready-moved parties next marking a h ∙ cond-false (is_in a parties) (next a) (ready marking a) (false_from_ne_true (is_in a parties) p)
 
 -- two markings of as many agents are one where each agent is ready for the same
-pub same_markings : (one two : AgentsReady) → length one ≡ length two → ((a : ℕ) → a < length one → ready one a ≡ ready two a) → one ≡ two
+pub same_markings : (one two : PlainMarking) → length one ≡ length two → ((a : ℕ) → a < length one → ready one a ≡ ready two a) → one ≡ two
 same_markings one two l h = ext_get_or [] one two l h
 
 -- what each of n agents is ready for who are ready for the same
@@ -52,23 +52,23 @@ pub ready-replicate : (n a : ℕ) (here : List ℕ) → a < n → ready (replica
 ready-replicate n a here h = get_or-replicate n a here [] h
 
 -- a marking in which each of n agents is ready for the same
-pub same_for_all : (n : ℕ) (here : List ℕ) (marking : AgentsReady) → length marking ≡ n → ((a : ℕ) → a < n → ready marking a ≡ here) → marking ≡ replicate n here
+pub same_for_all : (n : ℕ) (here : List ℕ) (marking : PlainMarking) → length marking ≡ n → ((a : ℕ) → a < n → ready marking a ≡ here) → marking ≡ replicate n here
 same_for_all n here marking l h =
     same_markings marking (replicate n here) (l ∙ sym (length-replicate n here))
     (λ a k. let q : a < n = subst (λ m. a < m) l k in h a q ∙ sym (ready-replicate n a here q))
 
 -- what is enabled is an atom
-pub enables-atom : (net : Negotiation) (marking : AgentsReady) (n : ℕ) → IsTrue (enables net marking n) → IsTrue (is_in n net.atoms)
-enables-atom net marking n h = (and_parts (is_in n net.atoms) (list_all (λ a. is_in n (ready marking a)) (net.parties n)) h).0
+pub enables-atom : (nego : Negotiation) (marking : PlainMarking) (n : ℕ) → IsTrue (enables nego marking n) → IsTrue (is_in n nego.atoms)
+enables-atom nego marking n h = (and_parts (is_in n nego.atoms) (list_all (λ a. is_in n (ready marking a)) (nego.parties n)) h).0
 
 -- each party of what is enabled is ready for it
-pub enables-party : (net : Negotiation) (marking : AgentsReady) (n a : ℕ) → IsTrue (enables net marking n) → IsTrue (is_in a (net.parties n)) → IsTrue (is_in n (ready marking a))
-enables-party net marking n a h p =
-    all_at (λ b. is_in n (ready marking b)) (net.parties n) a (and_parts (is_in n net.atoms) (list_all (λ b. is_in n (ready marking b)) (net.parties n)) h).1 p
+pub enables-party : (nego : Negotiation) (marking : PlainMarking) (n a : ℕ) → IsTrue (enables nego marking n) → IsTrue (is_in a (nego.parties n)) → IsTrue (is_in n (ready marking a))
+enables-party nego marking n a h p =
+    all_at (λ b. is_in n (ready marking b)) (nego.parties n) a (and_parts (is_in n nego.atoms) (list_all (λ b. is_in n (ready marking b)) (nego.parties n)) h).1 p
 
 -- an atom is enabled where each party is ready for it
-pub enables_from : (net : Negotiation) (marking : AgentsReady) (n : ℕ) → IsTrue (is_in n net.atoms) →
-    ((a : ℕ) → IsTrue (is_in a (net.parties n)) → IsTrue (is_in n (ready marking a))) → IsTrue (enables net marking n)
-enables_from net marking n there h =
-    and_from (is_in n net.atoms) (list_all (λ a. is_in n (ready marking a)) (net.parties n)) there
-    (all_from (λ a. is_in n (ready marking a)) (net.parties n) h)
+pub enables_from : (nego : Negotiation) (marking : PlainMarking) (n : ℕ) → IsTrue (is_in n nego.atoms) →
+    ((a : ℕ) → IsTrue (is_in a (nego.parties n)) → IsTrue (is_in n (ready marking a))) → IsTrue (enables nego marking n)
+enables_from nego marking n there h =
+    and_from (is_in n nego.atoms) (list_all (λ a. is_in n (ready marking a)) (nego.parties n)) there
+    (all_from (λ a. is_in n (ready marking a)) (nego.parties n) h)
