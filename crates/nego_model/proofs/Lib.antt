@@ -3,3 +3,7 @@ pub mod Markings
 pub mod Steps
 pub mod Joined
 pub mod CompleteRuns
+pub mod Rising
+pub mod JointData
+pub mod Tables
+pub mod OneAtom

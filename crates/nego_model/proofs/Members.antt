@@ -1,7 +1,8 @@
 -- Laws of membership in a list of numbers, and of tests that each item passes.
 use Rattle.std.proofs.Common.{◌≡◌, ◌≢◌, ◌⊎◌, inl, inr, ⊎_elim, ℕ, Bool, ◌==◌, List, [], ◌∷◌, IsTrue, refl, sym, subst, eq-eqb, eqb-true}
 use Rattle.std.proofs.lemmas.Bool.{or_cases, or_left, or_right, and_parts, and_from, true≢false}
-use Rattle.std.specs.List.{list_all}
+use Rattle.std.proofs.lemmas.List.Elements.{All-nil, All-cons, All-head, All-tail}
+use Rattle.std.specs.List.{All, list_all}
 use Rattle.nego_base.specs.Members.{is_in}
 
 -- the first item is in the list
@@ -42,3 +43,14 @@ pub all_from : (p : ℕ → Bool) (xs : List ℕ) → ((x : ℕ) → IsTrue (is_
 all_from p [] h = refl
 all_from p (x ∷ xs) h =
     and_from (p x) (list_all p xs) (h x (is_in_first x xs)) (all_from p xs (λ y k. h y (is_in_later y x xs k)))
+
+-- what holds of each item holds of what is in the list
+pub All-member : (P : ℕ → Type 0) (xs : List ℕ) (x : ℕ) → All P xs → IsTrue (is_in x xs) → P x
+All-member P [] x h k = absurd (is_in_none x [] refl k)
+All-member P (y ∷ ys) x h k =
+    ⊎_elim (λ e. subst P e (All-head P y ys h)) (λ m. All-member P ys x (All-tail P y ys h) m) (is_in_cases x y ys k)
+
+-- what holds of all that is in the list holds of each item
+pub All-from_members : (P : ℕ → Type 0) (xs : List ℕ) → ((x : ℕ) → IsTrue (is_in x xs) → P x) → All P xs
+All-from_members P [] h = All-nil P
+All-from_members P (x ∷ xs) h = All-cons P x xs (h x (is_in_first x xs)) (All-from_members P xs (λ y k. h y (is_in_later y x xs k)))
