@@ -1,3 +1,4 @@
 pub mod Lends
 pub mod Members
 pub mod Name
+pub mod Room
