@@ -44,3 +44,19 @@ Means base nodes i d e = MeansAmong base (reverse nodes) i d e
 -- what outcomes do whose expressions are these nodes, over a test for the outcomes under them
 abbrev pub ByNodes : RelationTest → List PlainNode → (ℕ → ℕ) → Relation
 ByNodes test nodes node_of o d e = Means (By test) nodes (node_of o) d e
+
+-- P of each outcome under a node, where `older` says the same of the nodes before it.
+abbrev pub NodeBases : (ℕ → Type 0) → (ℕ → Type 0) → PlainNode → Type 0
+NodeBases P older (Base o) = P o
+NodeBases P older (Join x y) = older x × older y
+NodeBases P older (Then x y) = older x × older y
+NodeBases P older (Star x) = older x
+
+-- The same for node i, of nodes of which the newest is first.
+abbrev pub BasesAmong : (ℕ → Type 0) → List PlainNode → ℕ → Type 0
+BasesAmong P [] i = Unit {0}
+BasesAmong P (node ∷ older) i = MatchBool (i == length older) (NodeBases P (BasesAmong P older) node) (BasesAmong P older i)
+
+-- P of each outcome under node i, of nodes in their order.
+abbrev pub EachBase : (ℕ → Type 0) → List PlainNode → ℕ → Type 0
+EachBase P nodes i = BasesAmong P (reverse nodes) i
