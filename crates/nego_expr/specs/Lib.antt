@@ -1,0 +1,3 @@
+pub mod Keeps
+pub mod Use
+pub mod Work
