@@ -5,7 +5,8 @@ use Rattle.std.specs.List.{range_with_len}
 use Rattle.std.specs.Int.{bit_at, bit_not, Width, trailing_zeros}
 use mir.Val.{bits}
 use Rattle.std.proofs.lemmas.Bool.{eqb-true, eqb-false, eq-eqb, ne_eqb, cases_eq, cases_Bool, lt-ltb, ltb-true, false≢true, and_parts, and_from}
-use Rattle.std.proofs.lemmas.Bool.Decides.{nat_tests}
+use Rattle.std.proofs.lemmas.Bool.Decides.{nat_tests, same_from_decides, Decides-like, Decides-eqb}
+use Rattle.std.specs.Cmp.Lexicographic.{pointwise, bytes_decides}
 use Rattle.std.proofs.lemmas.List.{length-append}
 use Rattle.std.proofs.lemmas.Nat.{and_le_l, ones_cat, ones_le_self, pow_pos}
 use Rattle.std.specs.Int.Count.{ones-ones}
@@ -205,3 +206,10 @@ members-count_mod (suc width) n =
 -- `count_ones`
 pub members-count : (width n : ℕ) → n < 2 ^ width → count_ones n ≡ length (members width n)
 members-count width n h = ap count_ones (sym (mod-eq_of_lt h)) ∙ members-count_mod width n
+
+-- the test `a == b`
+pub members-same : (width a b : ℕ) → a < 2 ^ width → b < 2 ^ width → eqb a b ≡ pointwise eqb (members width a) (members width b)
+members-same width a b p q =
+    same_from_decides (eqb a b) (pointwise eqb (members width a) (members width b))
+    (Decides-like (eqb a b) (λ e. ap (members width) e) (same_from_members width a b p q) (Decides-eqb a b))
+    (bytes_decides (members width a) (members width b))

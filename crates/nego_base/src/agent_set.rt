@@ -26,6 +26,26 @@ impl Model for AgentSet {
     ghost inverse_ok = { λ a h. ap (λ (n : ℕ). record { bits = n }) (word_of-members 16 a.bits h) };
 }
 
+impl PartialEq for AgentSet {
+    ghost use Rattle.std.specs.Prelude.{nat_eq};
+    ghost use Rattle.std.specs.Cmp.{partial_equiv_from_equiv};
+    ghost use Rattle.std.specs.Cmp.Lexicographic.{pointwise, nat_list_eq_equiv};
+
+    ghost eq = { pointwise nat_eq };
+
+    ghost laws = { partial_equiv_from_equiv nat_list_eq_equiv };
+
+    fn eq(&self, other: &AgentSet) -> bool {
+        self.bits == other.bits
+    }
+}
+
+impl Eq for AgentSet {
+    ghost use Rattle.std.specs.Cmp.Lexicographic.{nat_list_eq_equiv};
+
+    ghost laws = { nat_list_eq_equiv };
+}
+
 impl AgentSet {
     /// The set without members.
     pub fn none() -> AgentSet
