@@ -1,4 +1,4 @@
-ghost use Rattle.std.specs.Prelude.{◌≡◌, ◌<◌, [], length, slice_get, Some, MatchOption};
+ghost use Rattle.std.specs.Prelude.{◌≡◌, ◌<◌, [], ◌∷◌, length, slice_get, Some, IfSome, MatchOption};
 ghost use Rattle.nego_base.specs.Members.{is_in, all_in, any_in, with_member, without_member, IsRisingBelow};
 
 use crate::AgentId;
@@ -109,6 +109,8 @@ impl AgentSet {
     /// The member of the least number, where there is a member.
     pub fn least(self) -> Option<AgentId>
         ensures value { MatchOption result (self ≡ []) (λ x. slice_get self 0 ≡ Some x.0) }
+        ensures rest { IfSome result (λ x. self ≡ x.0 ∷ without_member x.0 self) }
+        ensures bound { IfSome result (λ x. x.0 < 16) }
         ensures members { IsRisingBelow 16 self }
     {
         if self.bits == 0 {
