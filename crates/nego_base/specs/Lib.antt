@@ -2,4 +2,6 @@ pub mod Bits
 pub mod Lends
 pub mod Members
 pub mod Name
+pub mod Options
+pub mod Results
 pub mod Room
