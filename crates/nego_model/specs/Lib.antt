@@ -4,6 +4,7 @@ pub mod Data
 pub mod Cases
 pub mod CaseForm
 pub mod Joining
+pub mod Reaching
 pub mod Locality
 pub mod Expression
 pub mod Diagram
