@@ -6,4 +6,6 @@ pub mod CompleteRuns
 pub mod Rising
 pub mod JointData
 pub mod Tables
+pub mod CaseRelations
 pub mod OneAtom
+pub mod OneCase
