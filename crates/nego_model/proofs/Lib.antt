@@ -1,11 +1,6 @@
-pub mod Members
 pub mod Markings
 pub mod Steps
 pub mod Joined
 pub mod CompleteRuns
-pub mod Rising
-pub mod JointData
-pub mod Tables
-pub mod CaseRelations
 pub mod OneAtom
 pub mod OneCase
