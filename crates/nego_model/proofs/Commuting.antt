@@ -5,7 +5,7 @@ use Rattle.std.proofs.lemmas.List.{get_or_past}
 use Rattle.nego_base.specs.Members.{is_in}
 use Rattle.nego_model.specs.Negotiation.{Negotiation, IsNegotiation}
 use Rattle.nego_model.specs.Occurring.{PlainMarking, Occurrence, ready, moved, enables, after}
-use Rattle.nego_model.proofs.Members.{is_in_none}
+use Rattle.nego_base.proofs.Members.{is_in_none}
 use Rattle.nego_model.proofs.Markings.{length-moved, ready-moved_party, ready-moved_other, same_markings, enables-atom, enables-party, enables_from}
 use Rattle.nego_model.proofs.Steps.{after-some, after_from}
 use Rattle.nego_model.proofs.Acting.{in_or_not}
