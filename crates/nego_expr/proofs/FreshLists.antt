@@ -1,5 +1,5 @@
 -- Laws of the lists of a fresh work.
-use Rattle.std.proofs.Common.{◌≡◌, ℕ, zero, suc, ◌+◌, ◌<◌, ◌≤◌, Bool, true, false, ◌==◌, cond, List, [], ◌∷◌, length, map, filter, slice_get, slice_index_or, Option, Some, None, option_map, IsTrue, refl, sym, subst, ap, ◌∙◌, arith, eq-eqb, ne_eqb}
+use Rattle.std.proofs.Common.{◌≡◌, ℕ, zero, suc, ◌+◌, ◌<◌, ◌≤◌, Bool, true, false, ◌==◌, cond, List, [], ◌∷◌, length, map, filter, slice_get, Some, option_map, IsTrue, refl, sym, subst, ap, ◌∙◌, arith, eq-eqb, ne_eqb}
 use Rattle.std.proofs.lemmas.Bool.{cond-true, cond-false}
 use Rattle.std.proofs.lemmas.Option.{none-some, same_Some}
 use Rattle.std.proofs.lemmas.List.Elements.{All-nil, All-cons}
@@ -9,7 +9,7 @@ use Rattle.nego_base.specs.Members.{is_in, RisesFrom}
 use Rattle.nego_model.specs.Negotiation.{IsRising}
 use Rattle.nego_model.specs.Diagram.{PlainAtom, PlainOutcome, PlainDiagram, outcomes_from, nexts_of}
 use Rattle.nego_model.proofs.Members.{is_in_first, is_in_later}
-use Rattle.nego_expr.specs.Work.{WorkAtom, WorkOutcome, parties_among, outcome_among}
+use Rattle.nego_expr.specs.Work.{WorkOutcome, parties_among, outcome_among}
 use Rattle.nego_expr.specs.Fresh.{atoms_from, outcomes_of}
 
 -- a range rises from where it begins
@@ -78,9 +78,6 @@ module _ (diagram : PlainDiagram) where
   outcomes_of-at_atom n [] m = refl
   outcomes_of-at_atom n (x ∷ xs) m = go (x.atom == m) (outcomes_of-at_atom (n + 1) xs m)
     where
-      rest : List WorkOutcome
-      rest = filter (λ outcome. outcome.atom == m) (outcomes_of diagram (n + 1) xs)
-
       go : (b : Bool) → map (λ outcome. outcome.number) (filter (λ outcome. outcome.atom == m) (outcomes_of diagram (n + 1) xs)) ≡ outcomes_from (n + 1) xs m →
           map (λ outcome. outcome.number) (cond b (fresh_outcome diagram n x ∷ filter (λ outcome. outcome.atom == m) (outcomes_of diagram (n + 1) xs)) (filter (λ outcome. outcome.atom == m) (outcomes_of diagram (n + 1) xs)))
           ≡ cond b (n ∷ outcomes_from (n + 1) xs m) (outcomes_from (n + 1) xs m)

@@ -1,5 +1,5 @@
 -- The fresh work of a deterministic diagram is a work, and stands for the diagram.
-use Rattle.std.proofs.Common.{◌≡◌, ◌⊎◌, ◌↔◌, inl, inr, ⊎_elim, ℕ, ◌+◌, ◌<◌, ◌≤◌, Bool, false, ◌==◌, List, [], ◌∷◌, length, map, slice_get, slice_index_or, Option, Some, None, option_map, IsTrue, refl, sym, subst, ap, ◌∙◌, arith}
+use Rattle.std.proofs.Common.{◌≡◌, ◌↔◌, ⊎_elim, ℕ, ◌+◌, ◌<◌, ◌≤◌, false, [], length, map, slice_get, slice_index_or, Option, Some, None, option_map, IsTrue, refl, sym, subst, ap, ◌∙◌, arith}
 use Rattle.std.proofs.Math.Path.{fun_ext}
 use Rattle.std.proofs.lemmas.Bool.{cases_lt, true≢false}
 use Rattle.std.proofs.lemmas.Option.{slice_get_within, get_or_from_slice_get}
@@ -12,12 +12,12 @@ use Rattle.nego_base.proofs.Members.{all_in-members}
 use Rattle.nego_model.specs.Negotiation.{Negotiation, IsNegotiation, IsOutcome, IsDeterministic}
 use Rattle.nego_model.specs.Occurring.{IsSound}
 use Rattle.nego_model.specs.Joining.{Relation, By, Runs}
-use Rattle.nego_model.specs.Expression.{IsNodeList, EachBase}
+use Rattle.nego_model.specs.Expression.{EachBase}
 use Rattle.nego_model.specs.Diagram.{PlainOutcome, PlainDiagram, negotiation_of, relation_of, parties_of, nexts_of, outcome_name, IsDiagram}
 use Rattle.nego_model.specs.Summary.{final_outcomes}
 use Rattle.nego_model.proofs.Rising.{is_in_range}
 use Rattle.nego_model.proofs.Joined.{Joins-wider}
-use Rattle.nego_expr.specs.Work.{WorkAtom, WorkOutcome, PlainWork, IsWork, outcome_at, sent_to, work_parties, work_outcomes, negotiation_of_work, ByWork}
+use Rattle.nego_expr.specs.Work.{WorkOutcome, IsWork, outcome_at, sent_to, work_parties, work_outcomes, negotiation_of_work, ByWork}
 use Rattle.nego_expr.specs.Fresh.{atoms_from, outcomes_of, fresh_work, Stands, FreshWorksStand}
 use Rattle.nego_expr.proofs.Alive.{ByWork-found, ByWork-none}
 use Rattle.nego_expr.proofs.BaseNodes.{base_nodes, length-base_nodes, base_nodes-formed, Means-base_nodes, EachBase-base_nodes}
@@ -49,9 +49,9 @@ fresh_outcomes diagram n = outcomes_of-at_atom diagram 0 diagram.outcomes n
 -- an outcome of a diagram is one of its atom
 pub diagram_outcome : (diagram : PlainDiagram) → IsDiagram diagram → (o : ℕ) (x : PlainOutcome) → slice_get diagram.outcomes o ≡ Some x → IsOutcome (negotiation_of diagram) x.atom o
 diagram_outcome diagram ok o x h = (
-    is_in_range 0 (length diagram.atoms) x.atom (omega arith) (let k : x.atom < length diagram.atoms = below in omega (arith, k)),
-    subst (λ p. IsTrue (is_in p ((negotiation_of diagram).outcomes x.atom))) (let e : 0 + o ≡ o = omega arith in e) (is_in_outcomes_from 0 diagram.outcomes o x h),
-  )
+  is_in_range 0 (length diagram.atoms) x.atom (omega arith) (let k : x.atom < length diagram.atoms = below in omega (arith, k)),
+  subst (λ p. IsTrue (is_in p ((negotiation_of diagram).outcomes x.atom))) (let e : 0 + o ≡ o = omega arith in e) (is_in_outcomes_from 0 diagram.outcomes o x h),
+)
   where
     below : x.atom < length diagram.atoms
     below = subst (λ y. y.atom < length diagram.atoms) (get_or_from_slice_get diagram.outcomes o x x h) (ok.own_atom o x (slice_get_within diagram.outcomes o x h))
@@ -105,9 +105,9 @@ module _ (diagram : PlainDiagram) (ok : IsDiagram diagram) (one : IsDeterministi
     where
       go : (found : Option PlainOutcome) → slice_get diagram.outcomes o ≡ found → ByWork (relation_of diagram) (fresh_work diagram) o d e ↔ By (relation_of diagram) o d e
       go None h = (
-          λ m. absurd (ByWork-none (relation_of diagram) (fresh_work diagram) o d e (fresh_found diagram o ∙ ap (option_map (fresh_outcome diagram o)) h) m),
-          λ m. absurd (true≢false (sym m ∙ ap (λ found. option_map_or (λ outcome. is_in e (slice_index_or outcome.table d [])) found false) h)),
-        )
+        λ m. absurd (ByWork-none (relation_of diagram) (fresh_work diagram) o d e (fresh_found diagram o ∙ ap (option_map (fresh_outcome diagram o)) h) m),
+        λ m. absurd (true≢false (sym m ∙ ap (λ found. option_map_or (λ outcome. is_in e (slice_index_or outcome.table d [])) found false) h)),
+      )
       go (Some x) h =
           let k = ByWork-found (relation_of diagram) (fresh_work diagram) o (fresh_outcome diagram o x) d e (fresh_found diagram o ∙ ap (option_map (fresh_outcome diagram o)) h) in
           let m = Means-base_nodes (By (relation_of diagram)) (length diagram.outcomes) o d e (slice_get_within diagram.outcomes o x h) in
@@ -120,11 +120,11 @@ module _ (diagram : PlainDiagram) (ok : IsDiagram diagram) (one : IsDeterministi
     sound = (λ h. subst IsSound fresh_negotiation h, λ h. subst IsSound (sym fresh_negotiation) h);
     finals = sym (fresh_outcomes diagram diagram.last);
     runs = λ f d e _. (
-        λ r. Runs-wider (negotiation_of_work (fresh_work diagram)) (By (relation_of diagram)) (ByWork (relation_of diagram) (fresh_work diagram)) f d e (λ o a b h. (fresh_relation o a b).1 h)
-            (subst (λ nego. Runs nego (By (relation_of diagram)) f d e) fresh_negotiation r),
-        λ r. subst (λ nego. Runs nego (By (relation_of diagram)) f d e) (sym fresh_negotiation)
-            (Runs-wider (negotiation_of_work (fresh_work diagram)) (ByWork (relation_of diagram) (fresh_work diagram)) (By (relation_of diagram)) f d e (λ o a b h. (fresh_relation o a b).0 h) r),
-      );
+      λ r. Runs-wider (negotiation_of_work (fresh_work diagram)) (By (relation_of diagram)) (ByWork (relation_of diagram) (fresh_work diagram)) f d e (λ o a b h. (fresh_relation o a b).1 h)
+          (subst (λ nego. Runs nego (By (relation_of diagram)) f d e) fresh_negotiation r),
+      λ r. subst (λ nego. Runs nego (By (relation_of diagram)) f d e) (sym fresh_negotiation)
+          (Runs-wider (negotiation_of_work (fresh_work diagram)) (ByWork (relation_of diagram) (fresh_work diagram)) (By (relation_of diagram)) f d e (λ o a b h. (fresh_relation o a b).0 h) r),
+    );
   }
 
   -- the fresh work is a work
