@@ -15,3 +15,4 @@ pub mod Tables
 pub mod CaseRelations
 pub mod OneAtom
 pub mod OneCase
+mod Examples
