@@ -9,10 +9,12 @@ pub mod Expressions
 pub mod Proper
 pub mod Ways
 pub mod Commuting
+pub mod Alike
 pub mod JointData
 pub mod Acting
 pub mod Tables
 pub mod CaseRelations
+pub mod Diagrams
 pub mod OneAtom
 pub mod OneCase
 mod Examples
