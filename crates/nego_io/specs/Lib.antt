@@ -1,1 +1,4 @@
+pub mod Answer
+pub mod Front
 pub mod Outside
+pub mod Part

@@ -1,9 +1,13 @@
 -- What a call on an object of the outside leaves of its count of faults and of the bytes that it tells.
-use Rattle.std.specs.Prelude.{◌≡◌, ℕ, ◌+◌, ◌-◌, ◌^◌, ◌≤◌, min, List, [], ◌++◌, OnErr, Option, Some, None, Result}
+use Rattle.std.specs.Prelude.{◌≡◌, ℕ, ◌+◌, ◌-◌, ◌^◌, ◌≤◌, min, List, [], ◌++◌, length, OnErr, Option, Some, None, Result}
+
+-- the number after n in a count of 64 bits, which stays at its last value
+abbrev pub next_count : ℕ → ℕ
+next_count n = min (n + 1) (2 ^ 64 - 1)
 
 -- The count rose, or stands at its last value.
 abbrev pub Rose : ℕ → ℕ → Type 0
-Rose before now = min (before + 1) (2 ^ 64 - 1) ≤ now
+Rose before now = next_count before ≤ now
 
 -- The count doesn't fall, and an error is answered only where it rose.
 pub record HasCause {T E : Type 0} (before now : ℕ) (result : Result T E) : Type 0 where
@@ -26,4 +30,4 @@ Puts bytes old new = WhereTold old new (λ before now. now ≡ before ++ bytes)
 
 -- A front of these bytes was put behind what was taken before.
 abbrev pub PutsFront : List ℕ → Option (List ℕ) → Option (List ℕ) → Type 0
-PutsFront bytes old new = WhereTold old new (λ before now. (front : List ℕ) × ((rest : List ℕ) × (bytes ≡ front ++ rest) × (now ≡ before ++ front)))
+PutsFront bytes old new = WhereTold old new (λ before now. (front : List ℕ) × ((rest : List ℕ) × ((bytes ≡ front ++ rest) × (now ≡ before ++ front))))

@@ -2,11 +2,11 @@
 use Rattle.std.proofs.Common.{◌≡◌, ◌⊎◌, ◌↔◌, ⊎_elim, inl, inr, ℕ, zero, suc, ◌+◌, ◌<◌, Bool, true, false, cond, ◌==◌, List, [], ◌∷◌, length, reverse, slice_index, MatchBool, IsTrue, refl, sym, subst, ap, ◌∙◌, arith, le_of_suc-le-suc}
 use Rattle.std.proofs.lemmas.Bool.{cases_Bool, cond-true, cond-false, true≢false, false_from_ne_true}
 use Rattle.nego_base.specs.Members.{is_in}
-use Rattle.nego_model.specs.Data.{data_count, split, joint}
+use Rattle.nego_data.specs.Data.{data_count, split, joint}
 use Rattle.nego_model.specs.Joining.{Relation}
-use Rattle.nego_model.specs.Locality.{AgreeOn, AgreeOff, ActsOn}
+use Rattle.nego_data.specs.Locality.{AgreeOn, AgreeOff, ActsOn}
 use Rattle.nego_model.specs.Expression.{PlainNode, Base, Join, Then, Star, IsPath, NodeMeans, MeansAmong, Means, NodeBases, BasesAmong, EachBase}
-use Rattle.nego_model.proofs.JointData.{AreValues, split-below, joint-below, split-joint, same_data}
+use Rattle.nego_data.proofs.JointData.{AreValues, split-below, joint-below, split-joint, same_data}
 
 -- a number is in a list or isn't
 pub in_or_not : (a : ℕ) (xs : List ℕ) → IsTrue (is_in a xs) ⊎ (¬ IsTrue (is_in a xs))

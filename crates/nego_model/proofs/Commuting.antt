@@ -5,11 +5,11 @@ use Rattle.std.proofs.lemmas.List.{get_or_past}
 use Rattle.nego_base.specs.Members.{is_in}
 use Rattle.nego_model.specs.Negotiation.{Negotiation, IsNegotiation}
 use Rattle.nego_model.specs.Occurring.{PlainMarking, Occurrence, ready, moved, enables, after}
-use Rattle.nego_model.specs.Data.{data_count}
+use Rattle.nego_data.specs.Data.{data_count}
 use Rattle.nego_model.specs.Joining.{Relation}
 use Rattle.nego_model.specs.Reaching.{Reaches}
 use Rattle.nego_model.specs.Locality.{IsLocal}
-use Rattle.nego_model.proofs.Members.{is_in_none}
+use Rattle.nego_base.proofs.Members.{is_in_none}
 use Rattle.nego_model.proofs.Markings.{length-moved, ready-moved_party, ready-moved_other, same_markings, enables-atom, enables-party, enables_from}
 use Rattle.nego_model.proofs.Steps.{after-some, after-outcome, after_from}
 use Rattle.nego_model.proofs.Reached.{reached_by_last}

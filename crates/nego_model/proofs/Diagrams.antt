@@ -1,12 +1,20 @@
 -- Laws of the negotiation that a diagram is.
-use Rattle.std.proofs.Common.{◌≡◌, ⊎_elim, ℕ, zero, suc, ◌+◌, ◌<◌, ◌≤◌, Bool, true, false, ◌==◌, cond, List, [], ◌∷◌, length, slice_get, slice_index_or, Some, IsTrue, refl, sym, subst, ap, ◌∙◌, arith, eqb-true, eq-eqb}
+use Rattle.std.proofs.Common.{◌≡◌, ⊎_elim, ℕ, zero, suc, ◌+◌, ◌<◌, ◌≤◌, Bool, true, false, ◌==◌, cond, List, [], ◌∷◌, length, slice_get, slice_index_or, Some, IsTrue, refl, sym, subst, ap, ◌∙◌, arith, eqb-true, eq-eqb, ltb-true, lt-ltb}
 use Rattle.std.proofs.lemmas.Option.{none-some, same_Some}
 use Rattle.std.specs.Option.{option_map_or}
-use Rattle.nego_base.specs.Members.{is_in}
-use Rattle.nego_model.specs.Negotiation.{IsOutcome, IsRising}
+use Rattle.std.specs.List.{All}
+use Rattle.nego_base.specs.Members.{is_in, RisesFrom, IsRising}
+use Rattle.nego_data.specs.declared.cases.Case.{Case}
+use Rattle.nego_data.specs.Data.{data_count}
+use Rattle.nego_data.specs.Cases.{relates, rows_of}
+use Rattle.nego_data.specs.CaseForm.{NamesOnly, AssignsBelow, IsCovered}
+use Rattle.nego_data.specs.Locality.{ActsOn}
+use Rattle.nego_data.proofs.Tables.{rows_of-relates}
+use Rattle.nego_data.proofs.CaseRelations.{relates-acts, related_from_covered}
+use Rattle.nego_model.specs.Negotiation.{IsOutcome}
 use Rattle.nego_model.specs.Diagram.{PlainAtom, PlainOutcome, PlainDiagram, negotiation_of, parties_of, outcomes_from, nexts_of, relation_of}
-use Rattle.nego_model.proofs.Members.{is_in_first, is_in_later, is_in_cases, is_in_none}
-use Rattle.nego_model.proofs.Rising.{is_in-range, is_in_range, rising-range, rising_from}
+use Rattle.nego_base.proofs.Members.{is_in-head, is_in-tail, is_in-cases, is_in_none, is_in-range_zero, rises-range, rises_more}
+use Rattle.nego_model.proofs.Acting.{ActsOn-same}
 
 -- Outcome o of a list of outcomes is this one, of this atom.
 pub record OutcomeAt (outcomes : List PlainOutcome) (n o : ℕ) : Type 0 where
@@ -20,7 +28,7 @@ outcomes_from-above k [] n o h = absurd (is_in_none o [] refl h)
 outcomes_from-above k (outcome ∷ outcomes) n o h = go (outcome.atom == n) h (outcomes_from-above (k + 1) outcomes n o)
   where
     go : (b : Bool) → IsTrue (is_in o (cond b (k ∷ outcomes_from (k + 1) outcomes n) (outcomes_from (k + 1) outcomes n))) → (IsTrue (is_in o (outcomes_from (k + 1) outcomes n)) → k + 1 ≤ o) → k ≤ o
-    go true q more = ⊎_elim (λ e. omega (arith, e)) (λ m. let l : k + 1 ≤ o = more m in omega (arith, l)) (is_in_cases o k (outcomes_from (k + 1) outcomes n) q)
+    go true q more = ⊎_elim (λ e. omega (arith, e)) (λ m. let l : k + 1 ≤ o = more m in omega (arith, l)) (is_in-cases o k (outcomes_from (k + 1) outcomes n) q)
     go false q more = let l : k + 1 ≤ o = more q in omega (arith, l)
 
 -- the outcome of a number among an atom's outcomes, which are numbered from k on
@@ -43,7 +51,7 @@ outcomes_from-at k (outcome ∷ outcomes) n (suc o) h = go (outcome.atom == n) h
         (IsTrue (is_in (k + 1 + o) (outcomes_from (k + 1) outcomes n)) → OutcomeAt outcomes n o) → OutcomeAt (outcome ∷ outcomes) n (suc o)
     go true q more =
         ⊎_elim (λ e. absurd (let no_more : ⊥ = omega (arith, e) in no_more)) (λ m. later (more (subst (λ x. IsTrue (is_in x (outcomes_from (k + 1) outcomes n))) same m)))
-        (is_in_cases (k + suc o) k (outcomes_from (k + 1) outcomes n) q)
+        (is_in-cases (k + suc o) k (outcomes_from (k + 1) outcomes n) q)
     go false q more = later (more (subst (λ x. IsTrue (is_in x (outcomes_from (k + 1) outcomes n))) same q))
 
 -- an outcome of an atom is among the atom's outcomes
@@ -51,7 +59,7 @@ pub in_outcomes_from : (k : ℕ) (outcomes : List PlainOutcome) (n o : ℕ) → 
 in_outcomes_from k [] n o r = absurd (none-some r.outcome r.at)
 in_outcomes_from k (outcome ∷ outcomes) n zero r =
     subst (λ b. IsTrue (is_in (k + 0) (cond b (k ∷ outcomes_from (k + 1) outcomes n) (outcomes_from (k + 1) outcomes n)))) (sym here)
-    (let e : k ≡ k + 0 = omega arith in subst (λ x. IsTrue (is_in x (k ∷ outcomes_from (k + 1) outcomes n))) e (is_in_first k (outcomes_from (k + 1) outcomes n)))
+    (let e : k ≡ k + 0 = omega arith in subst (λ x. IsTrue (is_in x (k ∷ outcomes_from (k + 1) outcomes n))) e (is_in-head k (outcomes_from (k + 1) outcomes n)))
   where
     here : (outcome.atom == n) ≡ true
     here = eq-eqb outcome.atom n (ap (λ x. x.atom) (same_Some outcome r.outcome r.at) ∙ r.of_atom)
@@ -61,26 +69,26 @@ in_outcomes_from k (outcome ∷ outcomes) n (suc o) r = go (outcome.atom == n) (
     same = omega arith
 
     go : (b : Bool) → IsTrue (is_in (k + 1 + o) (outcomes_from (k + 1) outcomes n)) → IsTrue (is_in (k + suc o) (cond b (k ∷ outcomes_from (k + 1) outcomes n) (outcomes_from (k + 1) outcomes n)))
-    go true m = is_in_later (k + suc o) k (outcomes_from (k + 1) outcomes n) (subst (λ x. IsTrue (is_in x (outcomes_from (k + 1) outcomes n))) same m)
+    go true m = is_in-tail (k + suc o) k (outcomes_from (k + 1) outcomes n) (subst (λ x. IsTrue (is_in x (outcomes_from (k + 1) outcomes n))) same m)
     go false m = subst (λ x. IsTrue (is_in x (outcomes_from (k + 1) outcomes n))) same m
 
--- an atom's outcomes rise
-pub rising-outcomes_from : (k : ℕ) (outcomes : List PlainOutcome) (n : ℕ) → IsRising (outcomes_from k outcomes n)
-rising-outcomes_from k [] n = tt
-rising-outcomes_from k (outcome ∷ outcomes) n = go (outcome.atom == n) (rising-outcomes_from (k + 1) outcomes n)
+-- an atom's outcomes rise from the first number on
+pub rises-outcomes_from : (k : ℕ) (outcomes : List PlainOutcome) (n : ℕ) → RisesFrom k (outcomes_from k outcomes n)
+rises-outcomes_from k [] n = tt
+rises-outcomes_from k (outcome ∷ outcomes) n = go (outcome.atom == n) (rises-outcomes_from (k + 1) outcomes n)
   where
-    go : (b : Bool) → IsRising (outcomes_from (k + 1) outcomes n) → IsRising (cond b (k ∷ outcomes_from (k + 1) outcomes n) (outcomes_from (k + 1) outcomes n))
-    go true h = rising_from k (outcomes_from (k + 1) outcomes n) (λ o m. let l : k + 1 ≤ o = outcomes_from-above (k + 1) outcomes n o m in omega (arith, l)) h
-    go false h = h
+    go : (b : Bool) → RisesFrom (k + 1) (outcomes_from (k + 1) outcomes n) → RisesFrom k (cond b (k ∷ outcomes_from (k + 1) outcomes n) (outcomes_from (k + 1) outcomes n))
+    go true h = (omega arith, h)
+    go false h = rises_more k (k + 1) (outcomes_from (k + 1) outcomes n) (omega arith) h
 
 module _ (diagram : PlainDiagram) where
   -- atoms are the numbers below their count
   pub atom-below : (n : ℕ) → IsTrue (is_in n (negotiation_of diagram).atoms) → n < length diagram.atoms
-  atom-below n h = let k = (is_in-range 0 (length diagram.atoms) n h).1 in omega (arith, k)
+  atom-below n h = ltb-true n (length diagram.atoms) (sym (is_in-range_zero n (length diagram.atoms)) ∙ h)
 
   -- a number below the count of atoms is an atom
   pub atom_from_below : (n : ℕ) → n < length diagram.atoms → IsTrue (is_in n (negotiation_of diagram).atoms)
-  atom_from_below n h = is_in_range 0 (length diagram.atoms) n (omega arith) (omega (arith, h))
+  atom_from_below n h = is_in-range_zero n (length diagram.atoms) ∙ lt-ltb n (length diagram.atoms) h
 
   -- the outcome of an atom
   pub outcome_at : (n o : ℕ) → IsOutcome (negotiation_of diagram) n o → OutcomeAt diagram.outcomes n o
@@ -101,7 +109,11 @@ module _ (diagram : PlainDiagram) where
 
   -- atoms rise
   pub rising-atoms : IsRising (negotiation_of diagram).atoms
-  rising-atoms = rising-range 0 (length diagram.atoms)
+  rising-atoms = rises-range 0 (length diagram.atoms)
+
+  -- an atom's outcomes rise
+  pub rising-outcomes : (n : ℕ) → IsRising ((negotiation_of diagram).outcomes n)
+  rising-outcomes n = rises-outcomes_from 0 diagram.outcomes n
 
   -- what an outcome relates stands in its table
   pub relation_of-at : (o d e : ℕ) (outcome : PlainOutcome) → slice_get diagram.outcomes o ≡ Some outcome → relation_of diagram o d e ≡ is_in e (slice_index_or outcome.table d [])
@@ -114,3 +126,15 @@ module _ (diagram : PlainDiagram) where
   -- the parties of an atom
   pub parties_of-at : (n : ℕ) (atom : PlainAtom) → slice_get diagram.atoms n ≡ Some atom → parties_of diagram n ≡ atom.parties
   parties_of-at n atom h = ap (λ x. option_map_or (λ (y : PlainAtom). y.parties) x []) h
+
+-- the table of cases that name some agents alone reads and changes the values of these alone
+pub rows_of-acts : (sizes agents : List ℕ) (cases : List Case) → All (NamesOnly agents) cases → ActsOn sizes agents (λ d e. IsTrue (is_in e (slice_index_or (rows_of sizes cases) d [])))
+rows_of-acts sizes agents cases names =
+    ActsOn-same sizes agents (λ d e. IsTrue (relates sizes cases d e)) (λ d e. IsTrue (is_in e (slice_index_or (rows_of sizes cases) d [])))
+    (λ d e. (λ h. rows_of-relates sizes cases d e ∙ h, λ h. sym (rows_of-relates sizes cases d e) ∙ h)) (relates-acts sizes agents cases names)
+
+-- the table of cases whose numbers fit has in a row something where some case covers the data
+pub rows_of-some : (sizes : List ℕ) (cases : List Case) (d : ℕ) → d < data_count sizes → All (AssignsBelow sizes) cases → IsCovered sizes cases d → (e : ℕ) × IsTrue (is_in e (slice_index_or (rows_of sizes cases) d []))
+rows_of-some sizes cases d h fits covered =
+    let k = related_from_covered sizes cases d h fits covered in
+    (k.0, rows_of-relates sizes cases d k.0 ∙ k.1)

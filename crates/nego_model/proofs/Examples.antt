@@ -4,16 +4,16 @@ use Rattle.std.proofs.lemmas.Bool.{true≢false}
 use Rattle.std.proofs.lemmas.Option.{same_Some}
 use Rattle.nego_base.specs.Members.{is_in}
 use Rattle.nego_base.specs.declared.op.Op.TheVariants.{Lt}
-use Rattle.nego_model.specs.declared.cases.Operand.TheVariants as operands
-use Rattle.nego_model.specs.declared.cases.Term.{Term}
-use Rattle.nego_model.specs.declared.cases.Term.TheVariants as terms
-use Rattle.nego_model.specs.declared.cases.Case.{Case}
+use Rattle.nego_data.specs.declared.cases.Operand.TheVariants as operands
+use Rattle.nego_data.specs.declared.cases.Term.{Term}
+use Rattle.nego_data.specs.declared.cases.Term.TheVariants as terms
+use Rattle.nego_data.specs.declared.cases.Case.{Case}
 use Rattle.nego_model.specs.Negotiation.{IsOutcome}
 use Rattle.nego_model.specs.Occurring.{PlainMarking, Occurrence, ready, after, leaves, opening_marking, final_marking, IsComplete, CanOccur, IsSound}
-use Rattle.nego_model.specs.Data.{split, joint}
-use Rattle.nego_model.specs.Cases.{relates, rows_of}
+use Rattle.nego_data.specs.Data.{split, joint}
+use Rattle.nego_data.specs.Cases.{relates, rows_of}
 use Rattle.nego_model.specs.Diagram.{PlainDiagram, negotiation_of}
-use Rattle.nego_model.proofs.Members.{is_in_single, is_in_cases}
+use Rattle.nego_base.proofs.Members.{is_in_single, is_in-cases}
 use Rattle.nego_model.proofs.Markings.{ready-replicate, enables-atom, enables-party}
 use Rattle.nego_model.proofs.Steps.{after-some, leaves-first}
 use Rattle.nego_model.proofs.Proper.{ready_leaves}
@@ -128,9 +128,9 @@ nothing_occurs step left e =
     everyone : (n : ℕ) → IsTrue (is_in n (0 ∷ 1 ∷ 2 ∷ [])) → (a : ℕ) → a < 2 → IsTrue (is_in a ((negotiation_of that_gets_stuck).parties n))
     everyone n h a k =
         let P : ℕ → Type 0 = λ m. IsTrue (is_in a ((negotiation_of that_gets_stuck).parties m)) in
-        ⊎_elim (λ e. subst P e (party a k))
-        (λ more. ⊎_elim (λ e. subst P e (party a k)) (λ last. subst P (sym (is_in_single n 2 last)) (party a k)) (is_in_cases n 1 (2 ∷ []) more))
-        (is_in_cases n 0 (1 ∷ 2 ∷ []) h)
+        ⊎_elim (λ e. subst P (sym e) (party a k))
+        (λ more. ⊎_elim (λ e. subst P (sym e) (party a k)) (λ last. subst P (sym (is_in_single n 2 last)) (party a k)) (is_in-cases n 1 (2 ∷ []) more))
+        (is_in-cases n 0 (1 ∷ 2 ∷ []) h)
 
 -- the run that gets stuck begins no complete run, so the diagram is unsound
 stuck_is_unsound : IsSound (negotiation_of that_gets_stuck) → ⊥

@@ -1,14 +1,14 @@
 -- Laws of the markings that occur: their lists rise, have only atoms of their agent, and where no two next atoms
 -- are given, at most one.
-use Rattle.std.proofs.Common.{◌≡◌, ⊎_elim, ℕ, ◌<◌, List, [], ◌∷◌, length, Some, IsTrue, sym, subst, ◌∙◌}
+use Rattle.std.proofs.Common.{◌≡◌, ⊎_elim, ℕ, ◌<◌, List, [], ◌∷◌, length, Some, IsTrue, sym, subst, ◌∙◌, arith}
 use Rattle.std.proofs.lemmas.Bool.{cases_Bool, true≢false}
 use Rattle.std.proofs.lemmas.List.{length-replicate}
 use Rattle.std.proofs.lemmas.Option.{same_Some}
 use Rattle.nego_base.specs.Members.{is_in}
-use Rattle.nego_model.specs.Negotiation.{Negotiation, IsNegotiation, IsDeterministic, IsOutcome, IsRising}
+use Rattle.nego_base.specs.Members.{IsRising}
+use Rattle.nego_model.specs.Negotiation.{Negotiation, IsNegotiation, IsDeterministic, IsOutcome}
 use Rattle.nego_model.specs.Occurring.{PlainMarking, Occurrence, ready, enables, after, leaves, opening_marking}
-use Rattle.nego_model.proofs.Members.{is_in_single}
-use Rattle.nego_model.proofs.Rising.{rising-single}
+use Rattle.nego_base.proofs.Members.{is_in_single, rising-single}
 use Rattle.nego_model.proofs.Markings.{ready-moved_party, ready-moved_other, ready-replicate, enables-atom, enables-party}
 use Rattle.nego_model.proofs.Steps.{after-some, after-outcome, length-after, leaves-first}
 
@@ -49,7 +49,7 @@ ready_leaves nego P (step ∷ steps) marking left l here next e a h =
 pub opening-proper : (nego : Negotiation) → IsNegotiation nego → IsProper nego (opening_marking nego)
 opening-proper nego ok = record {
   as_many = length-replicate nego.agents (nego.first ∷ []);
-  rise = λ a h. subst IsRising (sym (ready-replicate nego.agents a (nego.first ∷ []) h)) tt;
+  rise = λ a h. subst IsRising (sym (ready-replicate nego.agents a (nego.first ∷ []) h)) (omega arith, tt);
   atoms = λ a m h k.
       let e : m ≡ nego.first = is_in_single m nego.first (subst (λ xs. IsTrue (is_in m xs)) (ready-replicate nego.agents a (nego.first ∷ []) h) k) in
       subst (λ n. IsTrue (is_in n nego.atoms) × IsTrue (is_in a (nego.parties n))) (sym e) (ok.first_there, ok.all_begin a h);

@@ -6,7 +6,7 @@ use Rattle.nego_model.specs.Negotiation.{Negotiation, IsNegotiation, IsDetermini
 use Rattle.nego_model.specs.Occurring.{PlainMarking, Occurrence, ready, moved, enables, after, leaves, opening_marking, final_marking, IsComplete, IsSound, CanOccur}
 use Rattle.nego_model.specs.Joining.{Relation, Joins, EndsWith, Runs}
 use Rattle.nego_model.specs.Reaching.{all_at_last, Leads, EndsAtLast}
-use Rattle.nego_model.proofs.Members.{is_in_first}
+use Rattle.nego_base.proofs.Members.{is_in-head}
 use Rattle.nego_model.proofs.Markings.{length-moved, ready-moved_party, ready-replicate, same_for_all, enables_from, enables-party}
 use Rattle.nego_model.proofs.Steps.{after-some, after-outcome, after_from, leaves_before, leaves_then, leaves_through, run_leaves}
 use Rattle.nego_model.proofs.Joined.{Joins_then, joins_before}
@@ -23,7 +23,7 @@ all_at_last-from_enabled nego ok marking proper single h =
 pub all_at_last-enables : (nego : Negotiation) → IsNegotiation nego → IsTrue (enables nego (all_at_last nego) nego.last)
 all_at_last-enables nego ok =
     enables_from nego (all_at_last nego) nego.last ok.last_there (λ a h.
-    subst (λ xs. IsTrue (is_in nego.last xs)) (sym (ready-replicate nego.agents a (nego.last ∷ []) (ok.party_below nego.last a ok.last_there h))) (is_in_first nego.last []))
+    subst (λ xs. IsTrue (is_in nego.last xs)) (sym (ready-replicate nego.agents a (nego.last ∷ []) (ok.party_below nego.last a ok.last_there h))) (is_in-head nego.last []))
 
 -- behind everyone at the last atom each outcome of it leaves the final marking
 pub after_all_at_last : (nego : Negotiation) → IsNegotiation nego → (f : ℕ) → IsOutcome nego nego.last f → after nego (all_at_last nego) (nego.last, f) ≡ Some (final_marking nego)

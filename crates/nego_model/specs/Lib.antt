@@ -1,8 +1,5 @@
 pub mod Negotiation
 pub mod Occurring
-pub mod Data
-pub mod Cases
-pub mod CaseForm
 pub mod Joining
 pub mod Reaching
 pub mod Locality

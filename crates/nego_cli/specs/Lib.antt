@@ -1,0 +1,4 @@
+pub mod Answer
+pub mod Small
+pub mod Status
+pub mod Texts

@@ -1,0 +1,10 @@
+//! The command line of nego as one call over a source and two sinks, with its contract over bytes.
+#![tactic(auto)]
+
+mod refusal;
+mod status;
+mod top;
+
+pub use refusal::Refusal;
+pub use status::Status;
+pub use top::nego;

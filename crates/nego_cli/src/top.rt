@@ -1,0 +1,46 @@
+//! The top call.
+
+ghost use Rattle.std.specs.Prelude.{◌≡◌, ◌≢◌, ◌⊎◌, ℕ, ◌≤◌, ¬◌, List};
+ghost use Rattle.nego_io.specs.Outside.{Rose, WhereTold};
+ghost use Rattle.nego_io.specs.Part.{Whole, reading};
+ghost use Rattle.nego_cli.specs.Small.{SmallForm, IsSmall, small_text, summary_of};
+ghost use Rattle.nego_cli.specs.Texts.{reduction_text};
+ghost use Rattle.nego_cli.specs.Answer.{Reply, Reduced, Causes, Failed, Says, IsFault, Put, change, reduce_words, status_of};
+
+use crate::Status;
+use nego_base::Text;
+use nego_io::{Sink, Source};
+use std::alloc::Global;
+
+/// How many bytes a part of an input may have.
+pub const PART_LIMIT: u32 = 262_144;
+
+/// Does what the words say: takes a diagram from the source, and puts the answer on `out` or a line on `err`.
+pub fn nego<S: Source, O: Sink, E: Sink>(
+    alloc: Global,
+    words: &[Text],
+    source: &mut S,
+    out: &mut O,
+    err: &mut E,
+) -> Status
+    // What was put on `out` and `err`, what is left of the source, and why.
+    ensures says { Says words.now (change S.left S.faults source.old source.new) (change O.taken O.faults out.old out.new) (change E.taken E.faults err.old err.new) result }
+
+    // Where the words and the input are the cause of a reply, its status is answered, or a fault, or want of memory.
+    ensures words_exactly { words.now ≢ reduce_words → (result ≡ Status.Words) ⊎ IsFault result }
+    ensures exactly { WhereTold (S.left source.old) (S.left source.new) (λ input _. (reply : Reply) → Causes words.now input reply → (result ≡ status_of reply) ⊎ IsFault result) }
+
+    // Where the words are right, the input begins with a part of the small form and no count rose, the answer is
+    // that of the form, or want of memory.
+    ensures complete { WhereTold (S.left source.old) (S.left source.new) (λ input _. (form : SmallForm) (left : List ℕ) →
+        words.now ≡ reduce_words → IsSmall form → reading PART_LIMIT input ≡ Whole (small_text form) left →
+        ¬ Failed (change S.left S.faults source.old source.new) → ¬ Failed (change O.taken O.faults out.old out.new) → ¬ Failed (change E.taken E.faults err.old err.new) →
+        ((result ≡ Status.Done) × Put (reduction_text (summary_of form)) (change O.taken O.faults out.old out.new)) ⊎ (result ≡ Status.Memory)) }
+
+    // No count of faults falls.
+    ensures source_faults { S.faults source.old ≤ S.faults source.new }
+    ensures out_faults { O.faults out.old ≤ O.faults out.new }
+    ensures err_faults { E.faults err.old ≤ E.faults err.new }
+{
+    Status::Memory
+}

@@ -1,0 +1,90 @@
+ghost use Rattle.std.specs.Prelude.{◌≡◌, ℕ, ◌-◌, ◌^◌, ◌<◌, ◌≤◌, List, [], Option, None, IfOk, IfErr, OnErr, option_to_list};
+ghost use Rattle.nego_io.specs.Outside.{HasCause, WhereTold, Takes};
+ghost use Rattle.nego_io.specs.Part.{reading, Whole};
+ghost use Rattle.nego_io.specs.Answer.{Answers, FaultHasCause};
+ghost use Rattle.nego_io.specs.declared.part.ReadAnswer.TheVariants.{ReadFault, Memory as Starved};
+
+use crate::front::Front;
+use crate::{Failed, Source};
+use nego_base::{Memory, Text};
+use std::alloc::Global;
+use thiserror::Error;
+
+/// The bytes of a part: lines, of which the last is the first whose only word is `end`.
+#[derive(Debug, Drop)]
+pub struct Part {
+    pub bytes: Text,
+}
+
+/// Why no part was read.
+#[derive(Clone, Copy, Debug, PartialEq, Eq, Error)]
+pub enum ReadAnswer {
+    /// A call of the source failed.
+    #[error("the source failed")]
+    ReadFault,
+    /// The part has more bytes than the limit.
+    #[error("the part is too long")]
+    TooLong,
+    /// The input ended before the line `end`, which is missing on this line. The first line is 1.
+    #[error("no end on line {line}")]
+    NoEnd { line: u32 },
+    /// Want of memory.
+    #[error("out of memory")]
+    Memory,
+}
+
+impl From<Failed> for ReadAnswer {
+    ghost from_gives = { λ _ e. e ≡ ReadFault };
+
+    fn from(_error: Failed) -> ReadAnswer {
+        ReadAnswer::ReadFault
+    }
+}
+
+impl From<Memory> for ReadAnswer {
+    ghost from_gives = { λ _ e. e ≡ Starved };
+
+    fn from(_error: Memory) -> ReadAnswer {
+        ReadAnswer::Memory
+    }
+}
+
+/// The next byte, or None at the end of input.
+fn take_byte<S: Source>(source: &mut S) -> Result<Option<u8>, Failed>
+    ensures taken { IfOk result (λ byte. Takes (option_to_list byte) (S.left source.old) (S.left source.new)) }
+    ensures end { IfOk result (λ byte. byte ≡ None → WhereTold (S.left source.old) (S.left source.new) (λ before _. before ≡ [])) }
+    ensures err { OnErr result (Takes [] (S.left source.old) (S.left source.new)) }
+    ensures cause { HasCause (S.faults source.old) (S.faults source.new) result }
+{
+    let mut buf = [0u8; 1];
+    if source.take(&mut buf)? == 0 {
+        return Ok(None);
+    }
+    Ok(Some(buf[0]))
+}
+
+/// Reads the part that the input begins with, a byte at a time, and leaves what is behind it. It takes at most
+/// `limit + 1` bytes. Programs take all their input so.
+pub fn read_part<S: Source>(alloc: Global, source: &mut S, limit: u32) -> Result<Part, ReadAnswer>
+    requires { limit < 2 ^ 32 - 1 }
+    // Where the source tells, each answer has its cause in what was left.
+    ensures answers { WhereTold (S.left source.old) (S.left source.new) (Answers limit result) }
+    // Whether it tells or not, the bytes are a part and no more.
+    ensures whole { IfOk result (λ part. reading limit part.bytes ≡ Whole part.bytes []) }
+    ensures fault { IfErr result (λ e. FaultHasCause e (S.faults source.old) (S.faults source.new)) }
+    ensures later { S.faults source.old ≤ S.faults source.new }
+{
+    let mut front = Front::new(alloc);
+    for _ in 0..limit {
+        let Some(byte) = take_byte(source)? else {
+            return front.finish();
+        };
+        if front.push(byte)? {
+            return Ok(Part { bytes: front.bytes });
+        }
+    }
+    match take_byte(source)? {
+        None => front.finish(),
+        Some(_) => Err(ReadAnswer::TooLong),
+    }
+}
