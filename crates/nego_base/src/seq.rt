@@ -1,5 +1,9 @@
-ghost use Rattle.std.specs.Prelude.{◌≡◌, ◌==◌, [], ◌∷◌, ◌++◌, length, OnOk, OnErr, slice_get};
-ghost use Rattle.std.specs.Option.{option_copied};
+ghost use Rattle.std.specs.Prelude.{◌≡◌, ◌==◌, ◌+◌, ◌-◌, ◌<◌, ◌≤◌, ◌↔◌, [], ◌∷◌, ◌++◌, length, take, OnOk, OnErr, IfOk, IsSome, slice_get, slice_set, insert, remove, swap};
+ghost use Rattle.std.specs.List.Sorted.{IsPermutation, IsSorted, IsStable, IsSortedByKeyClosure, IsStableByKeyClosure};
+ghost use Rattle.std.specs.Option.{option_copied, option_to_list};
+
+mod equals;
+mod views;
 
 use crate::Memory;
 use std::alloc::Global;
@@ -35,6 +39,21 @@ impl<T> Seq<T> {
         }
     }
 
+    /// The list of the vector's items, in its memory.
+    pub fn from_vec(items: Vec<T>) -> Seq<T>
+        ensures { result ≡ items.items }
+    {
+        Seq { items }
+    }
+
+    /// The items as a vector, in the list's memory.
+    pub fn into_vec(self) -> Vec<T>
+        ensures { result.items ≡ self }
+    {
+        let Seq { items } = self;
+        items
+    }
+
     /// How many items there are.
     pub fn len(&self) -> usize
         ensures { result ≡ length self.now }
@@ -56,6 +75,13 @@ impl<T> Seq<T> {
         self.items.get(i)
     }
 
+    /// The last item.
+    pub fn last(&self) -> Option<&T>
+        ensures { option_copied result ≡ slice_get self.now (length self.now - 1) }
+    {
+        self.items.last()
+    }
+
     /// The items in order.
     pub fn as_slice(&self) -> &[T]
         ensures { result.now ≡ self.now }
@@ -71,6 +97,145 @@ impl<T> Seq<T> {
         ensures err { OnErr result (self.new ≡ self.old) }
     {
         self.items.push(x)?;
+        Ok(())
+    }
+
+    /// Puts an item at a place; the items from there on move up by one. On refusal it is dropped.
+    pub fn insert(&mut self, i: usize, x: T) -> Result<(), Memory>
+    where
+        T: Drop,
+        requires { i ≤ length self.old }
+        ensures ok { OnOk result (self.new ≡ insert self.old i x) }
+        ensures err { OnErr result (self.new ≡ self.old) }
+    {
+        self.items.insert(i, x)?;
+        Ok(())
+    }
+
+    /// Takes the last item.
+    pub fn pop(&mut self) -> Option<T>
+        ensures items { self.old ≡ self.new ++ option_to_list result }
+        ensures some { IsSome result ↔ (0 < length self.old) }
+    {
+        self.items.pop()
+    }
+
+    /// Takes the item at a place; the items behind it move down by one.
+    pub fn remove(&mut self, i: usize) -> T
+        requires { i < length self.old }
+        ensures value { slice_get self.old i ≡ Some result }
+        ensures items { self.new ≡ remove self.old i }
+    {
+        self.items.remove(i)
+    }
+
+    /// Puts an item in the place of another, which is dropped.
+    pub fn set(&mut self, i: usize, x: T)
+    where
+        T: Drop,
+        requires { i < length self.old }
+        ensures { self.new ≡ slice_set self.old i x }
+    {
+        self.items[i] = x;
+    }
+
+    /// Puts an item in the place of another, which it answers.
+    pub fn replace(&mut self, i: usize, x: T) -> T
+        requires { i < length self.old }
+        ensures value { slice_get self.old i ≡ Some result }
+        ensures items { self.new ≡ slice_set self.old i x }
+    {
+        std::mem::replace(&mut self.items[i], x)
+    }
+
+    /// Changes two items over.
+    pub fn swap(&mut self, i: usize, j: usize)
+        requires first { i < length self.old }
+        requires second { j < length self.old }
+        ensures { self.new ≡ swap self.old i j }
+    {
+        self.items.swap(i, j);
+    }
+
+    /// Keeps the first items and drops the others.
+    pub fn truncate(&mut self, n: usize)
+    where
+        T: Drop,
+        ensures { self.new ≡ take n self.old }
+    {
+        self.items.truncate(n);
+    }
+
+    /// Drops all items.
+    pub fn clear(&mut self)
+    where
+        T: Drop,
+        ensures { self.new ≡ [] }
+    {
+        self.items.clear();
+    }
+
+    /// Puts the items in the order of their keys; items of equal keys stay in the order that they have.
+    pub fn sort_by_key<K: Ord + Drop, F: FnMut(&T) -> K>(&mut self, key: F) -> Result<(), Memory>
+        requires { F.IsAlwaysCallable key }
+        ensures items { IsPermutation self.old self.new }
+        ensures sorted { OnOk result (IsSortedByKeyClosure F.FnMut K.cmp key self.new) }
+        ensures stable { IsStableByKeyClosure F.FnMut K.cmp key self.old self.new }
+        ensures err { OnErr result (self.new ≡ self.old) }
+    {
+        self.items.sort_by_key(key)?;
+        Ok(())
+    }
+
+    /// Moves the items of the other list to the end. On refusal both are as before.
+    pub fn append(&mut self, other: &mut Seq<T>) -> Result<(), Memory>
+        ensures ok { OnOk result (self.new ≡ self.old ++ other.old) }
+        ensures taken { OnOk result (other.new ≡ []) }
+        ensures err { OnErr result (self.new ≡ self.old) }
+        ensures kept { OnErr result (other.new ≡ other.old) }
+    {
+        self.items.append(&mut other.items)?;
+        Ok(())
+    }
+}
+
+impl<T: Copy> Seq<T> {
+    /// A list of the items of a slice.
+    pub fn copy_of(alloc: Global, items: &[T]) -> Result<Seq<T>, Memory>
+        ensures { IfOk result (λ s. s ≡ items.now) }
+    {
+        let items = Vec::from_slice(alloc, items)?;
+        Ok(Seq { items })
+    }
+
+    /// Puts the items of a slice at the end.
+    pub fn extend_from_slice(&mut self, items: &[T]) -> Result<(), Memory>
+        ensures ok { OnOk result (self.new ≡ self.old ++ items.now) }
+        ensures err { OnErr result (self.new ≡ self.old) }
+    {
+        self.items.extend_from_slice(items)?;
+        Ok(())
+    }
+}
+
+impl Seq<u8> {
+    /// A text of these bytes.
+    pub fn copy(alloc: Global, bytes: &[u8]) -> Result<Text, Memory>
+        ensures { IfOk result (λ t. t ≡ bytes.now) }
+    {
+        Seq::copy_of(alloc, bytes)
+    }
+}
+
+impl<T: Ord> Seq<T> {
+    /// Puts the items in order; equal ones stay in the order that they have.
+    pub fn sort(&mut self) -> Result<(), Memory>
+        ensures items { IsPermutation self.old self.new }
+        ensures sorted { OnOk result (IsSorted T.cmp self.new) }
+        ensures stable { IsStable T.cmp self.old self.new }
+        ensures err { OnErr result (self.new ≡ self.old) }
+    {
+        self.items.sort()?;
         Ok(())
     }
 }
