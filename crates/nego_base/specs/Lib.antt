@@ -2,3 +2,4 @@ pub mod Lends
 pub mod Lines
 pub mod Members
 pub mod Name
+pub mod Room

@@ -6,10 +6,12 @@ mod ids;
 mod memory;
 mod name;
 mod op;
+mod reserved;
 mod seq;
 
 pub use ids::{AgentId, AtomId, NodeId, OutcomeId};
 pub use memory::Memory;
 pub use name::is_name;
 pub use op::Op;
+pub use reserved::Reserved;
 pub use seq::{Seq, Text};

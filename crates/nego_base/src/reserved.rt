@@ -1,0 +1,131 @@
+ghost use Rattle.std.specs.Prelude.{◌≡◌, ◌==◌, ◌+◌, ◌-◌, ◌<◌, ◌≤◌, [], ◌∷◌, ◌++◌, length, take, IfOk, slice_set};
+
+use crate::{Memory, Seq};
+use std::alloc::Global;
+use std::marker::Model;
+
+/// A list with room for more items. What is put within the room takes no memory, so it can't be refused.
+/// Contracts see the items and for how many more there is room.
+#[derive(Debug, Drop)]
+pub struct Reserved<T> {
+    items: Vec<T>,
+    room: usize,
+}
+
+impl<T> Model for Reserved<T> {
+    ghost use Rattle.std.specs.Prelude.{◌+◌, ◌≤◌, vec_len};
+    ghost use Rattle.std.specs.Vec.{vec_capacity};
+    ghost use Rattle.nego_base.specs.Room.{WithRoom, with_room_code};
+
+    ghost Value = { WithRoom T };
+
+    ghost coded = { with_room_code T.code };
+
+    ghost view = { λ r. record { items = r.items.items; room = r.room } };
+
+    ghost invariant = { λ r. vec_len r.items + r.room ≤ vec_capacity r.items };
+}
+
+impl<T> Reserved<T> {
+    /// The empty list with this much room.
+    pub fn new(alloc: Global, room: usize) -> Result<Reserved<T>, Memory>
+        ensures items { IfOk result (λ r. r.items ≡ []) }
+        ensures room { IfOk result (λ r. r.room ≡ room) }
+    {
+        let items = Vec::with_capacity(alloc, room)?;
+        Ok(Reserved { items, room })
+    }
+
+    /// The list with this much room behind its items. On refusal it is dropped.
+    pub fn of(list: Seq<T>, room: usize) -> Result<Reserved<T>, Memory>
+    where
+        T: Drop,
+        ensures items { IfOk result (λ r. r.items ≡ list) }
+        ensures room { IfOk result (λ r. r.room ≡ room) }
+    {
+        let mut items = list.into_vec();
+        items.reserve(room)?;
+        Ok(Reserved { items, room })
+    }
+
+    /// The items as a list, in the same memory.
+    pub fn into_seq(self) -> Seq<T>
+        ensures { result ≡ self.items }
+    {
+        let Reserved { items, room: _ } = self;
+        Seq::from_vec(items)
+    }
+
+    /// For how many more items there is room.
+    pub fn room(&self) -> usize
+        ensures { result ≡ self.now.room }
+    {
+        self.room
+    }
+
+    /// How many items there are.
+    pub fn len(&self) -> usize
+        ensures { result ≡ length self.now.items }
+    {
+        self.items.len()
+    }
+
+    /// Whether there is no item.
+    pub fn is_empty(&self) -> bool
+        ensures { result ≡ (length self.now.items == 0) }
+    {
+        self.items.is_empty()
+    }
+
+    /// The items in order.
+    pub fn as_slice(&self) -> &[T]
+        ensures { result.now ≡ self.now.items }
+    {
+        self.items.as_slice()
+    }
+
+    /// Puts an item at the end.
+    pub fn push(&mut self, x: T)
+        requires { 0 < self.old.room }
+        ensures items { self.new.items ≡ self.old.items ++ x ∷ [] }
+        ensures room { self.new.room ≡ self.old.room - 1 }
+    {
+        self.room -= 1;
+        self.items.push_reserved(x);
+    }
+
+    /// Puts an item in the place of another, which is dropped.
+    pub fn set(&mut self, i: usize, x: T)
+    where
+        T: Drop,
+        requires { i < length self.old.items }
+        ensures items { self.new.items ≡ slice_set self.old.items i x }
+        ensures room { self.new.room ≡ self.old.room }
+    {
+        self.items[i] = x;
+    }
+
+    /// Keeps the first items and drops the others, whose places are room again.
+    pub fn truncate(&mut self, n: usize)
+    where
+        T: Drop,
+        ensures items { self.new.items ≡ take n self.old.items }
+        ensures room { self.new.room ≡ self.old.room + (length self.old.items - n) }
+    {
+        let cut = self.items.len().saturating_sub(n);
+        self.items.truncate(n);
+        self.room += cut;
+    }
+}
+
+impl<T: Copy> Reserved<T> {
+    /// Puts the items of a slice at the end.
+    pub fn extend_from_slice(&mut self, items: &[T])
+        requires { length items.now ≤ self.old.room }
+        ensures items { self.new.items ≡ self.old.items ++ items.now }
+        ensures room { self.new.room ≡ self.old.room - length items.now }
+    {
+        self.room -= items.len();
+        self.items.extend_from_slice(items).unwrap();
+    }
+}
