@@ -1,5 +1,5 @@
 -- The relation of an outcome on joint data, by its cases.
-use Rattle.std.specs.Prelude.{ℕ, ◌+◌, ◌-◌, min, Bool, true, false, not, ◌&&◌, ◌==◌, nat_lt, nat_le, if◌then◌else◌, List, [], ◌∷◌, ◌++◌, map, filter, slice_index, Option, Some, None}
+use Rattle.std.specs.Prelude.{ℕ, ◌+◌, ◌-◌, min, Bool, true, not, ◌&&◌, ◌==◌, nat_lt, nat_le, if◌then◌else◌, List, [], ◌∷◌, map, filter, slice_index, Option, Some, None}
 use Rattle.std.specs.List.{list_any, list_all, range_with_len}
 use Rattle.nego_base.specs.declared.op.Op.{Op}
 use Rattle.nego_base.specs.declared.op.Op.TheVariants.{Eq, Ne, Lt, Le, Gt, Ge}
@@ -10,7 +10,7 @@ use Rattle.nego_model.specs.declared.cases.Term.TheVariants as terms
 use Rattle.nego_model.specs.declared.cases.Test.{Test}
 use Rattle.nego_model.specs.declared.cases.Set.{Set}
 use Rattle.nego_model.specs.declared.cases.Case.{Case}
-use Rattle.nego_model.specs.Data.{all_of, split}
+use Rattle.nego_model.specs.Data.{data_count, split}
 
 -- whether the comparison of two numbers holds
 abbrev pub compares : Op → ℕ → ℕ → Bool
@@ -65,11 +65,11 @@ case_relates sizes case old new = covers case old && agents_follow 0 sizes case.
 -- whether the cases relate joint data to joint data
 abbrev pub relates : List ℕ → List Case → ℕ → ℕ → Bool
 relates sizes cases d e =
-    nat_lt d (all_of sizes) && (nat_lt e (all_of sizes) && list_any (λ case. case_relates sizes case (split sizes d) (split sizes e)) cases)
+    nat_lt d (data_count sizes) && (nat_lt e (data_count sizes) && list_any (λ case. case_relates sizes case (split sizes d) (split sizes e)) cases)
 
 -- all joint data, rising
 abbrev pub all_data : List ℕ → List ℕ
-all_data sizes = range_with_len 0 (all_of sizes)
+all_data sizes = range_with_len 0 (data_count sizes)
 
 -- for each joint data the rising list of those to which the cases relate it
 unfoldable pub rows_of : List ℕ → List Case → List (List ℕ)

@@ -1,11 +1,12 @@
 -- A diagram as plain data, the negotiation that it is, and when plain data are a diagram.
-use Rattle.std.specs.Prelude.{◌≡◌, ◌≢◌, ℕ, ◌+◌, ◌<◌, Bool, false, ◌==◌, if◌then◌else◌, List, [], ◌∷◌, length, slice_get, slice_index, slice_index_or, IsTrue}
+use Rattle.std.specs.Prelude.{◌≡◌, ℕ, ◌+◌, ◌<◌, Bool, false, ◌==◌, if◌then◌else◌, List, [], ◌∷◌, length, slice_get, slice_index_or, All}
 use Rattle.std.specs.List.{range_with_len}
 use Rattle.std.specs.Option.{option_map_or}
 use Rattle.nego_base.specs.Members.{is_in}
-use Rattle.nego_model.specs.Negotiation.{Negotiation, IsOutcome, IsNegotiation}
-use Rattle.nego_model.specs.Data.{all_of, split}
+use Rattle.nego_model.specs.Negotiation.{Negotiation, IsNegotiation, IsRising}
+use Rattle.nego_model.specs.Data.{data_count}
 use Rattle.nego_model.specs.Joining.{RelationTest, By}
+use Rattle.nego_model.specs.Locality.{IsLocal, IsTotal}
 
 -- an atom: its name and its parties
 pub record PlainAtom : Type 0 where
@@ -63,30 +64,20 @@ negotiation_of diagram = record {
 abbrev pub relation_of : PlainDiagram → RelationTest
 relation_of diagram o d e = option_map_or (λ outcome. is_in e (slice_index_or outcome.table d [])) (slice_get diagram.outcomes o) false
 
--- Each joint data is related to some.
-abbrev pub IsTotal : Negotiation → ℕ → RelationTest → Type 0
-IsTotal net all test = (n o d : ℕ) → IsOutcome net n o → d < all → (e : ℕ) × By test o d e
+-- A table has a row for each of so many joint data, and each row is a rising list of such data.
+pub record IsTable (count : ℕ) (table : List (List ℕ)) : Type 0 where
+  pub rows : length table ≡ count
+  pub rise : All IsRising table
+  pub on_data : All (λ row. All (λ e. e < count) row) table
 
--- These agents have the same values in both.
-abbrev pub AgreeOn : List ℕ → List ℕ → ℕ → ℕ → Type 0
-AgreeOn sizes agents d e = (a : ℕ) → a < length sizes → IsTrue (is_in a agents) → slice_index (split sizes d) a ≡ slice_index (split sizes e) a
-
--- All other agents have the same values in both.
-abbrev pub AgreeOff : List ℕ → List ℕ → ℕ → ℕ → Type 0
-AgreeOff sizes agents d e = (a : ℕ) → a < length sizes → ¬ IsTrue (is_in a agents) → slice_index (split sizes d) a ≡ slice_index (split sizes e) a
-
--- The relations are on joint data, and each reads and changes the data of its atom's parties alone.
-pub record IsLocal (net : Negotiation) (sizes : List ℕ) (test : RelationTest) : Type 0 where
-  pub on_data : (n o d e : ℕ) → IsOutcome net n o → By test o d e → (d < all_of sizes) × (e < all_of sizes)
-  pub changes : (n o d e : ℕ) → IsOutcome net n o → By test o d e → AgreeOff sizes (net.parties n) d e
-  pub reads : (n o d e d' e' : ℕ) → IsOutcome net n o → By test o d e → d' < all_of sizes → e' < all_of sizes →
-      AgreeOn sizes (net.parties n) d d' → AgreeOn sizes (net.parties n) e e' → AgreeOff sizes (net.parties n) d' e' → By test o d' e'
-
--- Plain data are a diagram: they are a negotiation, each agent has a size above 0, and the relations are total, and
--- read and change the data of their atoms' parties alone.
+-- Plain data are a diagram: they are a negotiation, and each outcome is of an atom; each agent has a size above 0;
+-- the outcomes' tables are tables of joint data, are total, and read and change the values of their atoms' parties
+-- alone.
 pub record IsDiagram (diagram : PlainDiagram) : Type 0 where
   pub form : IsNegotiation (negotiation_of diagram)
+  pub own_atom : All (λ outcome. outcome.atom < length diagram.atoms) diagram.outcomes
   pub sized : length diagram.sizes ≡ length diagram.agents
-  pub some_value : (a : ℕ) → a < length diagram.sizes → 0 < slice_index diagram.sizes a
-  pub total : IsTotal (negotiation_of diagram) (all_of diagram.sizes) (relation_of diagram)
-  pub only_parties : IsLocal (negotiation_of diagram) diagram.sizes (relation_of diagram)
+  pub some_value : All (λ size. 0 < size) diagram.sizes
+  pub tables : All (λ outcome. IsTable (data_count diagram.sizes) outcome.table) diagram.outcomes
+  pub total : IsTotal (negotiation_of diagram) diagram.sizes (By (relation_of diagram))
+  pub local : IsLocal (negotiation_of diagram) diagram.sizes (By (relation_of diagram))

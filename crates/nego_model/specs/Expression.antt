@@ -1,6 +1,6 @@
 -- Expressions over outcomes, and the relation that they mean.
-use Rattle.std.specs.Prelude.{◌≡◌, ◌⊎◌, ℕ, ◌<◌, ◌==◌, List, [], ◌∷◌, reverse, length, MatchBool}
-use Rattle.nego_model.specs.Joining.{Relation}
+use Rattle.std.specs.Prelude.{◌≡◌, ◌⊎◌, ℕ, ◌<◌, ◌==◌, List, [], ◌∷◌, reverse, length, slice_get, Some, All, MatchBool}
+use Rattle.nego_model.specs.Joining.{Relation, RelationTest, By}
 
 -- a node of an expression: an outcome, or one or two nodes of smaller numbers
 pub data PlainNode : Type 0 where
@@ -15,6 +15,10 @@ children (Base o) = []
 children (Join x y) = x ∷ y ∷ []
 children (Then x y) = x ∷ y ∷ []
 children (Star x) = x ∷ []
+
+-- Each child of a node has a smaller number than the node.
+abbrev pub IsNodeList : List PlainNode → Type 0
+IsNodeList nodes = (i : ℕ) (node : PlainNode) → slice_get nodes i ≡ Some node → All (λ child. child < i) (children node)
 
 -- The path begins behind d and ends with e, and all neighbours are related.
 abbrev pub IsPath : (ℕ → ℕ → Type 0) → ℕ → List ℕ → ℕ → Type 0
@@ -36,3 +40,7 @@ MeansAmong base (node ∷ older) i d e = MatchBool (i == length older) (NodeMean
 -- What node i relates, of nodes in their order.
 abbrev pub Means : Relation → List PlainNode → Relation
 Means base nodes i d e = MeansAmong base (reverse nodes) i d e
+
+-- what outcomes do whose expressions are these nodes, over a test for the outcomes under them
+abbrev pub ByNodes : RelationTest → List PlainNode → (ℕ → ℕ) → Relation
+ByNodes test nodes node_of o d e = Means (By test) nodes (node_of o) d e

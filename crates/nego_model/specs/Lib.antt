@@ -3,6 +3,7 @@ pub mod Occurring
 pub mod Data
 pub mod Cases
 pub mod Joining
+pub mod Locality
 pub mod Expression
 pub mod Diagram
 pub mod Summary

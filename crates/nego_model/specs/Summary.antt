@@ -1,11 +1,11 @@
 -- Summaries, and what a summary tells of a diagram.
-use Rattle.std.specs.Prelude.{◌≡◌, ◌↔◌, ℕ, ◌<◌, List, length, map, slice_get, slice_index, Some}
+use Rattle.std.specs.Prelude.{◌≡◌, ◌↔◌, ℕ, ◌<◌, List, length, map, slice_index}
 use Rattle.std.specs.List.{All}
 use Rattle.nego_model.specs.Joining.{By, Runs}
 use Rattle.nego_model.specs.Occurring.{IsSound}
-use Rattle.nego_model.specs.Expression.{PlainNode, children, Means}
+use Rattle.nego_model.specs.Expression.{PlainNode, IsNodeList, Means}
 use Rattle.nego_model.specs.Diagram.{PlainDiagram, negotiation_of, relation_of, outcome_name}
-use Rattle.nego_model.specs.Data.{all_of}
+use Rattle.nego_model.specs.Data.{data_count}
 
 -- a final outcome: its name and its node
 pub record PlainFinal : Type 0 where
@@ -19,7 +19,7 @@ pub record PlainSummary : Type 0 where
 
 -- Each child of a node has a smaller number than the node, and each final outcome has a node that is there.
 pub record IsFormed (summary : PlainSummary) : Type 0 where
-  pub below : (i c : ℕ) (node : PlainNode) → slice_get summary.nodes i ≡ Some node → All (λ child. child < i) (children node)
+  pub below : IsNodeList summary.nodes
   pub there : All (λ outcome. outcome.node < length summary.nodes) summary.finals
 
 -- the outcomes of the last atom, in order
@@ -33,6 +33,6 @@ pub record Tells (summary : PlainSummary) (diagram : PlainDiagram) : Type 0 wher
   pub formed : IsFormed summary
   pub sound : IsSound (negotiation_of diagram)
   pub named : map (λ outcome. outcome.name) summary.finals ≡ map (outcome_name diagram) (final_outcomes diagram)
-  pub each : (k d e : ℕ) → k < length (final_outcomes diagram) → d < all_of diagram.sizes → e < all_of diagram.sizes →
+  pub each : (k d e : ℕ) → k < length (final_outcomes diagram) → d < data_count diagram.sizes → e < data_count diagram.sizes →
       Means (By (relation_of diagram)) summary.nodes (slice_index (map (λ outcome. outcome.node) summary.finals) k) d e
       ↔ Runs (negotiation_of diagram) (By (relation_of diagram)) (slice_index (final_outcomes diagram) k) d e
