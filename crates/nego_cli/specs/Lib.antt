@@ -1,4 +1,6 @@
 pub mod Answer
+pub mod Form
+pub mod Reading
 pub mod Small
 pub mod Status
 pub mod Texts

@@ -2,6 +2,7 @@
 #![tactic(auto)]
 
 mod refusal;
+mod small;
 mod status;
 mod top;
 
