@@ -3,3 +3,9 @@ pub mod Markings
 pub mod Steps
 pub mod Joined
 pub mod CompleteRuns
+pub mod Rising
+pub mod JointData
+pub mod Tables
+pub mod CaseRelations
+pub mod OneAtom
+pub mod OneCase
