@@ -4,6 +4,7 @@
 mod refusal;
 mod small;
 mod status;
+mod text;
 mod top;
 
 pub use refusal::Refusal;
