@@ -1,3 +1,4 @@
+pub mod Bits
 pub mod Lends
 pub mod Lines
 pub mod Members

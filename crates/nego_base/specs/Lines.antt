@@ -1,11 +1,7 @@
 -- Lines and words of a text, which is a list of bytes. The newline is 10 and the carriage return 13.
 -- The blanks are the space, 32, and the tab, 9.
-use Rattle.std.specs.Prelude.{ℕ, Bool, true, false, ◌||◌, ◌==◌, List, [], ◌∷◌, if◌then◌else◌, bytes_eq}
-
--- a byte at the front of the first list, or as a list of its own where there is none
-abbrev pub onto_first : ℕ → List (List ℕ) → List (List ℕ)
-onto_first b [] = (b ∷ []) ∷ []
-onto_first b (x ∷ xs) = (b ∷ x) ∷ xs
+use Rattle.std.specs.Prelude.{ℕ, Bool, true, ◌||◌, ◌==◌, List, [], ◌∷◌, if◌then◌else◌, bytes_eq}
+use Rattle.std.specs.List.{onto_first}
 
 abbrev pub is_newline : ℕ → Bool
 is_newline b = b == 10

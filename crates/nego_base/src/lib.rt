@@ -2,6 +2,8 @@
 //! names, comparisons and the counter of steps.
 #![tactic(auto)]
 
+mod agent_set;
+mod atom_set;
 mod ids;
 mod memory;
 mod name;
@@ -9,6 +11,8 @@ mod op;
 mod reserved;
 mod seq;
 
+pub use agent_set::AgentSet;
+pub use atom_set::AtomSet;
 pub use ids::{AgentId, AtomId, NodeId, OutcomeId};
 pub use memory::Memory;
 pub use name::is_name;

@@ -1,5 +1,5 @@
 -- What a call on an object of the outside leaves of its count of faults and of the bytes that it tells.
-use Rattle.std.specs.Prelude.{◌≡◌, ℕ, ◌+◌, ◌-◌, ◌^◌, ◌≤◌, min, List, [], ◌++◌, length, OnErr, Option, Some, None, Result}
+use Rattle.std.specs.Prelude.{◌≡◌, ℕ, ◌+◌, ◌-◌, ◌^◌, ◌≤◌, min, List, ◌++◌, OnErr, Option, Some, None, Result}
 
 -- the number after n in a count of 64 bits, which stays at its last value
 abbrev pub next_count : ℕ → ℕ

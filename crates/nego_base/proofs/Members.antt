@@ -1,0 +1,355 @@
+-- Laws on lists of numbers as sets.
+use Rattle.std.proofs.Common.{Some, add-one, ◌≡◌, ℕ, ◌+◌, ◌<◌, ◌≤◌, Bool, true, false, not, cond, ◌&&◌, ◌||◌, eqb, List, [], ◌∷◌, ◌++◌, length, ◌⊎◌, inl, inr, refl, sym, ap, subst, ◌∙◌, arith}
+use Rattle.std.specs.Prelude.{All, slice_get}
+use Rattle.std.specs.List.{filter}
+use Rattle.std.proofs.lemmas.Bool.{or_left, or_right, both_ways, false_from_ne_true, or_parts, or_cases, and_parts, and_from, eqb-true, eq-eqb, ne_eqb, cases_eq, cases_lt, cases_order, false≢true, true≢false}
+use Rattle.std.proofs.lemmas.Bool.Decides.{nat_tests}
+use Rattle.std.proofs.lemmas.List.Elements.{All-nil, All-cons, All-head, All-tail, All-filter}
+use Rattle.nego_base.specs.Members.{is_in, all_in, any_in, with_member, without_member, RisesFrom, IsRisingBelow}
+
+-- ---- membership
+
+pub is_in-append : (x : ℕ) (xs ys : List ℕ) → is_in x (xs ++ ys) ≡ (is_in x xs || is_in x ys)
+is_in-append x [] ys = refl
+is_in-append x (z ∷ xs) ys = let h = is_in-append x xs ys in grind (arith, nat_tests)
+
+pub is_in-filter : (p : ℕ → Bool) (x : ℕ) (xs : List ℕ) → is_in x (filter p xs) ≡ (p x && is_in x xs)
+is_in-filter p x [] = grind arith
+is_in-filter p x (y ∷ ys) = let h = is_in-filter p x ys in grind (arith, nat_tests)
+
+pub is_in-with : (x y : ℕ) (xs : List ℕ) → is_in x (with_member y xs) ≡ (eqb y x || is_in x xs)
+is_in-with x y [] = refl
+is_in-with x y (z ∷ zs) = let h = is_in-with x y zs in grind (arith, nat_tests)
+
+pub is_in-without : (x y : ℕ) (xs : List ℕ) → is_in x (without_member y xs) ≡ (not (eqb x y) && is_in x xs)
+is_in-without x y xs = is_in-filter (λ z. not (eqb z y)) x xs
+
+-- the head is a member
+pub is_in-head : (x : ℕ) (xs : List ℕ) → is_in x (x ∷ xs) ≡ true
+is_in-head x xs = grind (arith, nat_tests)
+
+-- a member of the tail is one of the list
+pub is_in-tail : (x y : ℕ) (xs : List ℕ) → is_in x xs ≡ true → is_in x (y ∷ xs) ≡ true
+is_in-tail x y xs h = grind (arith, nat_tests)
+
+-- a member is the head or stands in the tail
+pub is_in-cases : (x y : ℕ) (xs : List ℕ) → is_in x (y ∷ xs) ≡ true → (x ≡ y) ⊎ (is_in x xs ≡ true)
+is_in-cases x y xs h = grind (arith, nat_tests)
+
+-- what holds of each item holds of each member
+pub All-member : (P : ℕ → Type 0) (x : ℕ) (xs : List ℕ) → All P xs → is_in x xs ≡ true → P x
+All-member P x [] a h = absurd (false≢true h)
+All-member P x (y ∷ ys) a h =
+    elim (is_in-cases x y ys h) [ inl e ↦ subst P (sym e) (All-head P y ys a) | inr q ↦ All-member P x ys (All-tail P y ys a) q ]
+
+-- what holds of each member holds of each item
+pub All-members : (P : ℕ → Type 0) (xs : List ℕ) → ((x : ℕ) → is_in x xs ≡ true → P x) → All P xs
+All-members P [] h = All-nil P
+All-members P (y ∷ ys) h =
+    All-cons P y ys (h y (is_in-head y ys)) (All-members P ys (λ x q. h x (is_in-tail x y ys q)))
+
+-- ---- rising lists
+
+pub rises_more : (low high : ℕ) (xs : List ℕ) → low ≤ high → RisesFrom high xs → RisesFrom low xs
+rises_more low high [] h r = tt
+rises_more low high (x ∷ xs) h r = (omega arith, r.1)
+
+-- no number below the low one is a member
+pub not_in_below : (low x : ℕ) (xs : List ℕ) → RisesFrom low xs → x < low → is_in x xs ≡ false
+not_in_below low x [] r h = refl
+not_in_below low x (y ∷ ys) r h = let t = not_in_below (y + 1) x ys r.1 (omega arith) in grind (arith, nat_tests)
+
+-- each member is at least the low number
+pub member_from : (low x : ℕ) (xs : List ℕ) → RisesFrom low xs → is_in x xs ≡ true → low ≤ x
+member_from low x xs r h =
+    elim (cases_lt x low) [ inl q ↦ absurd (false≢true (sym (not_in_below low x xs r q) ∙ h)) | inr q ↦ q ]
+
+pub rises-with : (low x : ℕ) (xs : List ℕ) → low ≤ x → RisesFrom low xs → RisesFrom low (with_member x xs)
+rises-with low x [] h r = (h, tt)
+rises-with low x (y ∷ ys) h r =
+    elim (cases_order x y) [
+      | inl e ↦ subst (RisesFrom low) (sym (with_same x y ys e)) r
+      | inr (inl q) ↦ subst (RisesFrom low) (sym (with_front x y ys q)) (h, (omega arith, r.1))
+      | inr (inr q) ↦ subst (RisesFrom low) (sym (with_behind x y ys q)) (r.0, rises-with (y + 1) x ys (omega arith) r.1)
+    ]
+  where
+    with_same : (x y : ℕ) (ys : List ℕ) → x ≡ y → with_member x (y ∷ ys) ≡ y ∷ ys
+    with_same x y ys e = grind (arith, nat_tests)
+
+    with_front : (x y : ℕ) (ys : List ℕ) → x < y → with_member x (y ∷ ys) ≡ x ∷ y ∷ ys
+    with_front x y ys q = grind (arith, nat_tests)
+
+    with_behind : (x y : ℕ) (ys : List ℕ) → y < x → with_member x (y ∷ ys) ≡ y ∷ with_member x ys
+    with_behind x y ys q = grind (arith, nat_tests)
+
+pub rises-filter : (p : ℕ → Bool) (low : ℕ) (xs : List ℕ) → RisesFrom low xs → RisesFrom low (filter p xs)
+rises-filter p low [] r = tt
+rises-filter p low (x ∷ xs) r = kept (p x) (rises-filter p (x + 1) xs r.1)
+  where
+    kept : (b : Bool) → RisesFrom (x + 1) (filter p xs) → RisesFrom low (cond b (x ∷ filter p xs) (filter p xs))
+    kept true h = (r.0, h)
+    kept false h = rises_more low (x + 1) (filter p xs) (omega (arith, r.0)) h
+
+pub rises-without : (x low : ℕ) (xs : List ℕ) → RisesFrom low xs → RisesFrom low (without_member x xs)
+rises-without x low xs r = rises-filter (λ y. not (eqb y x)) low xs r
+
+-- two rising lists with the same members are the same list
+pub same_rising : (low : ℕ) (xs ys : List ℕ) → RisesFrom low xs → RisesFrom low ys → ((x : ℕ) → is_in x xs ≡ is_in x ys) → xs ≡ ys
+same_rising low [] [] r s h = refl
+same_rising low [] (y ∷ ys) r s h = absurd (false≢true (h y ∙ is_in-head y ys))
+same_rising low (x ∷ xs) [] r s h = absurd (true≢false (sym (is_in-head x xs) ∙ h x))
+same_rising low (x ∷ xs) (y ∷ ys) r s h =
+    let e : x ≡ y = same_head x y xs ys r.1 s.1 (sym (h x) ∙ is_in-head x xs) (h y ∙ is_in-head y ys) in
+    let P : ℕ → Type 0 = λ z. RisesFrom (z + 1) ys in
+    let t : xs ≡ ys = same_rising (x + 1) xs ys r.1 (subst P (sym e) s.1) (λ z. same_tail x y z xs ys e r.1 s.1 (h z)) in
+    cc
+  where
+    same_head : (x y : ℕ) (xs ys : List ℕ) → RisesFrom (x + 1) xs → RisesFrom (y + 1) ys → is_in x (y ∷ ys) ≡ true → is_in y (x ∷ xs) ≡ true → x ≡ y
+    same_head x y xs ys r s p q =
+        elim (is_in-cases x y ys p) [
+          | inl e ↦ e
+          | inr m ↦ elim (is_in-cases y x xs q) [
+            | inl e ↦ sym e
+            | inr n ↦ let a = member_from (y + 1) x ys s m in let b = member_from (x + 1) y xs r n in absurd (omega (arith, a, b))
+          ]
+        ]
+
+    same_tail : (x y z : ℕ) (xs ys : List ℕ) → x ≡ y → RisesFrom (x + 1) xs → RisesFrom (y + 1) ys → is_in z (x ∷ xs) ≡ is_in z (y ∷ ys) → is_in z xs ≡ is_in z ys
+    same_tail x y z xs ys e r s h =
+        elim (cases_lt x z) [
+          | inl q ↦ grind (arith, nat_tests)
+          | inr q ↦ not_in_below (x + 1) z xs r (omega arith) ∙ sym (not_in_below (y + 1) z ys s (omega arith))
+        ]
+
+-- ---- a member put in or taken out
+
+-- a member put in again changes nothing
+pub with-member : (low x : ℕ) (xs : List ℕ) → RisesFrom low xs → is_in x xs ≡ true → with_member x xs ≡ xs
+with-member low x xs r h =
+    same_rising 0 (with_member x xs) xs (rises-with 0 x xs (omega arith) r0) r0 (λ z. is_in-with z x xs ∙ same z)
+  where
+    r0 : RisesFrom 0 xs
+    r0 = rises_more 0 low xs (omega arith) r
+
+    same : (z : ℕ) → (eqb x z || is_in z xs) ≡ is_in z xs
+    same z = elim (cases_eq x z) [
+      | inl e ↦ let P : ℕ → Type 0 = λ y. is_in y xs ≡ true in let t : is_in z xs ≡ true = subst P e h in grind (arith, nat_tests)
+      | inr n ↦ grind (arith, nat_tests, ne_eqb x z n)
+    ]
+
+-- a number that is no member taken out changes nothing
+pub without-other : (x : ℕ) (xs : List ℕ) → is_in x xs ≡ false → without_member x xs ≡ xs
+without-other x [] h = refl
+without-other x (y ∷ ys) h =
+    let p = or_parts (eqb y x) (is_in x ys) h in
+    let t = without-other x ys p.1 in
+    rw (p.0, t) refl
+
+-- the head of a rising list taken out leaves the tail
+pub without-head : (x : ℕ) (xs : List ℕ) → RisesFrom (x + 1) xs → without_member x (x ∷ xs) ≡ xs
+without-head x xs r =
+    let e : eqb x x ≡ true = eq-eqb x x refl in
+    rw e (without-other x xs (not_in_below (x + 1) x xs r (omega arith)))
+
+pub length-with : (x : ℕ) (xs : List ℕ) → is_in x xs ≡ false → length (with_member x xs) ≡ length xs + 1
+length-with x [] h = refl
+length-with x (y ∷ ys) h =
+    let p = or_parts (eqb y x) (is_in x ys) h in
+    let t = length-with x ys p.1 in
+    grind (arith, nat_tests)
+
+pub length-without : (low x : ℕ) (xs : List ℕ) → RisesFrom low xs → is_in x xs ≡ true → length (without_member x xs) + 1 ≡ length xs
+length-without low x [] r h = absurd (false≢true h)
+length-without low x (y ∷ ys) r h = by_head (length-without (y + 1) x ys r.1) (cases_eq y x)
+  where
+    by_head : (is_in x ys ≡ true → length (without_member x ys) + 1 ≡ length ys) → (y ≡ x) ⊎ (y ≡ x → ⊥) → length (without_member x (y ∷ ys)) + 1 ≡ length (y ∷ ys)
+    by_head rest (inl e) =
+        let P : ℕ → Type 0 = λ z. length (without_member z (y ∷ ys)) + 1 ≡ length (y ∷ ys) in
+        subst P e (rw (without-head y ys r.1) (add-one (length ys)))
+    by_head rest (inr n) =
+        let e : eqb y x ≡ false = ne_eqb y x n in
+        let m : is_in x ys ≡ true = elim (is_in-cases x y ys h) [ inl q ↦ absurd (n (sym q)) | inr q ↦ q ] in
+        let t = rest m in
+        rw e (omega (arith, t))
+
+-- a number put in and taken out again
+pub without-with : (low x : ℕ) (xs : List ℕ) → RisesFrom low xs → is_in x xs ≡ false → without_member x (with_member x xs) ≡ xs
+without-with low x xs r h =
+    same_rising 0 (without_member x (with_member x xs)) xs (rises-without x 0 (with_member x xs) (rises-with 0 x xs (omega arith) r0)) r0 same
+  where
+    r0 : RisesFrom 0 xs
+    r0 = rises_more 0 low xs (omega arith) r
+
+    same : (z : ℕ) → is_in z (without_member x (with_member x xs)) ≡ is_in z xs
+    same z = is_in-without z x (with_member x xs) ∙ ap (λ b. not (eqb z x) && b) (is_in-with z x xs) ∙ at_number (cases_eq z x)
+      where
+        at_number : (z ≡ x) ⊎ (z ≡ x → ⊥) → (not (eqb z x) && (eqb x z || is_in z xs)) ≡ is_in z xs
+        at_number (inl e) = let P : ℕ → Type 0 = λ y. is_in y xs ≡ false in let t : is_in z xs ≡ false = subst P (sym e) h in rw (eq-eqb z x e, t) refl
+        at_number (inr n) = rw (ne_eqb z x n, ne_eqb x z (λ e. n (sym e))) refl
+
+-- a member taken out and put in again
+pub with-without : (low x : ℕ) (xs : List ℕ) → RisesFrom low xs → is_in x xs ≡ true → with_member x (without_member x xs) ≡ xs
+with-without low x xs r h =
+    same_rising 0 (with_member x (without_member x xs)) xs (rises-with 0 x (without_member x xs) (omega arith) (rises-without x 0 xs r0)) r0 same
+  where
+    r0 : RisesFrom 0 xs
+    r0 = rises_more 0 low xs (omega arith) r
+
+    same : (z : ℕ) → is_in z (with_member x (without_member x xs)) ≡ is_in z xs
+    same z = is_in-with z x (without_member x xs) ∙ ap (λ b. eqb x z || b) (is_in-without z x xs) ∙ at_number (cases_eq z x)
+      where
+        at_number : (z ≡ x) ⊎ (z ≡ x → ⊥) → (eqb x z || (not (eqb z x) && is_in z xs)) ≡ is_in z xs
+        at_number (inl e) = let P : ℕ → Type 0 = λ y. is_in y xs ≡ true in let t : is_in z xs ≡ true = subst P (sym e) h in rw (eq-eqb x z (sym e), t) refl
+        at_number (inr n) = rw (ne_eqb z x n, ne_eqb x z (λ e. n (sym e))) refl
+
+-- a number above all others goes to the end
+pub with-last : (x : ℕ) (xs : List ℕ) → All (λ y. y < x) xs → with_member x xs ≡ xs ++ x ∷ []
+with-last x [] a = refl
+with-last x (y ∷ ys) a =
+    let q : y < x = All-head (λ z. z < x) y ys a in
+    let t = with-last x ys (All-tail (λ z. z < x) y ys a) in
+    grind (arith, nat_tests)
+
+-- ---- one list in another
+
+-- a member of the one is a member of the other
+pub all_in-member : (x : ℕ) (xs ys : List ℕ) → all_in xs ys ≡ true → is_in x xs ≡ true → is_in x ys ≡ true
+all_in-member x [] ys a h = absurd (false≢true h)
+all_in-member x (z ∷ xs) ys a h =
+    let p = and_parts (is_in z ys) (all_in xs ys) a in
+    let P : ℕ → Type 0 = λ w. is_in w ys ≡ true in
+    elim (is_in-cases x z xs h) [ inl e ↦ subst P (sym e) p.0 | inr m ↦ all_in-member x xs ys p.1 m ]
+
+pub all_in-members : (xs ys : List ℕ) → ((x : ℕ) → is_in x xs ≡ true → is_in x ys ≡ true) → all_in xs ys ≡ true
+all_in-members [] ys h = refl
+all_in-members (z ∷ xs) ys h =
+    and_from (is_in z ys) (all_in xs ys) (h z (is_in-head z xs)) (all_in-members xs ys (λ x m. h x (is_in-tail x z xs m)))
+
+-- some number is a member of both
+pub any_in-member : (xs ys : List ℕ) → any_in xs ys ≡ true → (x : ℕ) × (is_in x xs ≡ true) × (is_in x ys ≡ true)
+any_in-member [] ys a = absurd (false≢true a)
+any_in-member (z ∷ xs) ys a =
+    elim (or_cases (is_in z ys) (any_in xs ys) a) [
+      | inl m ↦ (z, is_in-head z xs, m)
+      | inr q ↦ let t = any_in-member xs ys q in (t.0, is_in-tail t.0 z xs t.1, t.2)
+    ]
+
+pub any_in-members : (x : ℕ) (xs ys : List ℕ) → is_in x xs ≡ true → is_in x ys ≡ true → any_in xs ys ≡ true
+any_in-members x [] ys h k = absurd (false≢true h)
+any_in-members x (z ∷ xs) ys h k =
+    let P : ℕ → Type 0 = λ w. is_in w ys ≡ true in
+    elim (is_in-cases x z xs h) [
+      | inl e ↦ or_left (is_in z ys) (any_in xs ys) (subst P e k)
+      | inr m ↦ or_right (is_in z ys) (any_in xs ys) (any_in-members x xs ys m k)
+    ]
+
+-- where no number is a member of both, a member of the one is none of the other
+pub any_in-none : (x : ℕ) (xs ys : List ℕ) → any_in xs ys ≡ false → is_in x xs ≡ true → is_in x ys ≡ false
+any_in-none x xs ys a h = false_from_ne_true (is_in x ys) (λ k. false≢true (sym a ∙ any_in-members x xs ys h k))
+
+-- a rising list in another and the other in it are the same list
+pub same_all_in : (low : ℕ) (xs ys : List ℕ) → RisesFrom low xs → RisesFrom low ys → all_in xs ys ≡ true → all_in ys xs ≡ true → xs ≡ ys
+same_all_in low xs ys r s a b =
+    same_rising low xs ys r s (λ x. same_tests (is_in x xs) (is_in x ys) (all_in-member x xs ys a) (all_in-member x ys xs b))
+  where
+    same_tests : (s t : Bool) → (s ≡ true → t ≡ true) → (t ≡ true → s ≡ true) → s ≡ t
+    same_tests true t f g = sym (f refl)
+    same_tests false true f g = g refl
+    same_tests false false f g = refl
+
+-- a rising list in another is no longer
+pub length-all_in : (low : ℕ) (xs ys : List ℕ) → RisesFrom low xs → RisesFrom low ys → all_in xs ys ≡ true → length xs ≤ length ys
+length-all_in low [] ys r s a = omega arith
+length-all_in low (x ∷ xs) ys r s a =
+    let m : is_in x ys ≡ true = all_in-member x (x ∷ xs) ys a (is_in-head x xs) in
+    let rest : all_in xs (without_member x ys) ≡ true = all_in-members xs (without_member x ys) (λ z q. kept z q (all_in-member z (x ∷ xs) ys a (is_in-tail z x xs q))) in
+    let above : RisesFrom low xs = rises_more low (x + 1) xs (omega (arith, r.0)) r.1 in
+    let n = length-without low x ys s m in
+    let k = length-all_in low xs (without_member x ys) above (rises-without x low ys s) rest in
+    omega (arith, n, k)
+  where
+    kept : (z : ℕ) → is_in z xs ≡ true → is_in z ys ≡ true → is_in z (without_member x ys) ≡ true
+    kept z q m =
+        let from = member_from (x + 1) z xs r.1 q in
+        let n : eqb z x ≡ false = ne_eqb z x (λ e. omega (arith, from, e)) in
+        is_in-without z x ys ∙ rw (n, m) refl
+
+-- ---- the least member and the number of members
+
+-- no member of a rising list is less than its head
+pub head-least : (x y : ℕ) (xs : List ℕ) → RisesFrom (x + 1) xs → is_in y (x ∷ xs) ≡ true → x ≤ y
+head-least x y xs r h = member_from x y (x ∷ xs) (omega arith, r) h
+
+-- a member of a rising list of which none is less is its head
+pub head_from_least : (low x : ℕ) (xs : List ℕ) → RisesFrom low xs → is_in x xs ≡ true → ((y : ℕ) → y < x → is_in y xs ≡ false) → slice_get xs 0 ≡ Some x
+head_from_least low x [] r h least = absurd (false≢true h)
+head_from_least low x (z ∷ zs) r h least = ap Some (elim (cases_order z x) [
+  | inl e ↦ e
+  | inr (inl q) ↦ absurd (true≢false (sym (is_in-head z zs) ∙ least z q))
+  | inr (inr q) ↦ absurd (both_ways (is_in x (z ∷ zs)) (not_in_below z x (z ∷ zs) (omega arith, r.1) q) h)
+])
+
+-- a list without members is empty
+pub nil_from_none : (xs : List ℕ) → ((x : ℕ) → is_in x xs ≡ false) → xs ≡ []
+nil_from_none [] h = refl
+nil_from_none (x ∷ xs) h = absurd (both_ways (is_in x (x ∷ xs)) (h x) (is_in-head x xs))
+
+-- a rising list below the width is no longer than the width
+pub length-rising : (low width : ℕ) (xs : List ℕ) → RisesFrom low xs → All (λ x. x < width) xs → low ≤ width → length xs + low ≤ width
+length-rising low width [] r a h = omega arith
+length-rising low width (x ∷ xs) r a h =
+    let here : x < width = All-head (λ z. z < width) x xs a in
+    let t = length-rising (x + 1) width xs r.1 (All-tail (λ z. z < width) x xs a) (omega arith) in
+    omega (arith, t, r.0)
+
+-- ---- rising lists below a width
+
+pub empty-rises : (width : ℕ) → IsRisingBelow width []
+empty-rises width = record { rising = tt; below = All-nil (λ x. x < width) }
+
+pub with-rises : (width x : ℕ) (xs : List ℕ) → x < width → IsRisingBelow width xs → IsRisingBelow width (with_member x xs)
+with-rises width x xs h s = record {
+  rising = rises-with 0 x xs (omega arith) s.rising;
+  below = All-members (λ y. y < width) (with_member x xs) (λ y m. put y (or_cases (eqb x y) (is_in y xs) (sym (is_in-with y x xs) ∙ m)));
+}
+  where
+    put : (y : ℕ) → (eqb x y ≡ true) ⊎ (is_in y xs ≡ true) → y < width
+    put y (inl e) = let q = eqb-true x y e in omega arith
+    put y (inr m) = All-member (λ z. z < width) y xs s.below m
+
+pub without-rises : (width x : ℕ) (xs : List ℕ) → IsRisingBelow width xs → IsRisingBelow width (without_member x xs)
+without-rises width x xs s = record {
+  rising = rises-without x 0 xs s.rising;
+  below = All-filter (λ y. not (eqb y x)) (λ y. y < width) xs s.below;
+}
+
+pub member_below : (width x : ℕ) (xs : List ℕ) → IsRisingBelow width xs → is_in x xs ≡ true → x < width
+member_below width x xs s m = All-member (λ y. y < width) x xs s.below m
+
+-- two rising lists below a width that have the same members below it are the same list
+pub same_below : (width : ℕ) (xs ys : List ℕ) → IsRisingBelow width xs → IsRisingBelow width ys → ((x : ℕ) → x < width → is_in x xs ≡ is_in x ys) → xs ≡ ys
+same_below width xs ys r s h = same_rising 0 xs ys r.rising s.rising (λ x. at_number x (cases_lt x width))
+  where
+    at_number : (x : ℕ) → (x < width) ⊎ (width ≤ x) → is_in x xs ≡ is_in x ys
+    at_number x (inl q) = h x q
+    at_number x (inr q) = none x xs r q ∙ sym (none x ys s q)
+      where
+        none : (x : ℕ) (zs : List ℕ) → IsRisingBelow width zs → width ≤ x → is_in x zs ≡ false
+        none x zs t q = false_from_ne_true (is_in x zs) (λ m. let p = member_below width x zs t m in absurd (omega (arith, p, q)))
+
+-- a set of numbers below a width has no more members than the width
+pub length-below : (width : ℕ) (xs : List ℕ) → IsRisingBelow width xs → length xs ≤ width
+length-below width xs s = let t = length-rising 0 width xs s.rising s.below (omega arith) in omega (arith, t)
+
+-- a rising list is its first number and the others
+pub first_and_rest : (width x : ℕ) (xs : List ℕ) → IsRisingBelow width xs → slice_get xs 0 ≡ Some x → xs ≡ x ∷ without_member x xs
+first_and_rest width x [] s e = cc
+first_and_rest width x (y ∷ ys) s e = at_head (same_item e)
+  where
+    same_item : slice_get (y ∷ ys) 0 ≡ Some x → y ≡ x
+    same_item q = cc
+
+    at_head : y ≡ x → y ∷ ys ≡ x ∷ without_member x (y ∷ ys)
+    at_head q =
+        let P : ℕ → Type 0 = λ z. y ∷ ys ≡ z ∷ without_member z (y ∷ ys) in
+        subst P q (ap (λ zs. y ∷ zs) (sym (without-head y ys s.rising.1)))

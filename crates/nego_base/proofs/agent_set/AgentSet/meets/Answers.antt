@@ -1,0 +1,11 @@
+use Rattle.nego_base.proofs.Bits.{members-meets, members-rise}
+use Rattle.nego_base.proofs.agent_set.AgentSet.meets.Goals as goal
+
+pub returns-clause-value : goal.returns-clause-value
+returns-clause-value c = rw (← c.self.view_is, ← c.other.view_is) (members-meets 16 c.self.inside.bits c.other.inside.bits c.self.invariant)
+
+pub returns-clause-members : goal.returns-clause-members
+returns-clause-members c = rw (← c.self.view_is) (members-rise 16 c.self.inside.bits)
+
+pub returns-clause-others : goal.returns-clause-others
+returns-clause-others c = rw (← c.other.view_is) (members-rise 16 c.other.inside.bits)

@@ -1,0 +1,6 @@
+pub mod EndLaws
+pub mod FrontLaws
+pub mod OutsideLaws
+pub mod PartLaws
+pub mod ReadLaws
+pub mod ReadingLaws
