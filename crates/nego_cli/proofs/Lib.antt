@@ -2,3 +2,5 @@ pub mod Pieces
 pub mod Forms
 pub mod Told
 pub mod Printed
+pub mod Found
+pub mod Said

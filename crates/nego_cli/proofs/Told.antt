@@ -1,5 +1,5 @@
 -- The diagram of a small form is a diagram, and the summary tells it.
-use Rattle.std.proofs.Common.{◌≡◌, ℕ, ◌<◌, List, [], ◌∷◌, Option, Some, None, refl}
+use Rattle.std.proofs.Common.{ℕ, ◌<◌, List, [], ◌∷◌, Option, Some, None, refl}
 use Rattle.std.specs.Prelude.{IfSome}
 use Rattle.nego_model.specs.declared.cases.Case.{Case}
 use Rattle.nego_model.specs.declared.cases.Term.TheVariants as terms

@@ -1,5 +1,6 @@
 pub mod Answer
 pub mod Form
+pub mod Handed
 pub mod Reading
 pub mod Small
 pub mod Status
