@@ -1,5 +1,5 @@
 -- Laws on the members of a word of bits, once for all widths.
-use Rattle.std.proofs.Common.{◌≡◌, ℕ, zero, suc, ◌+◌, ◌*◌, ◌/◌, ◌%◌, ◌^◌, ◌<◌, Bool, true, false, not, ◌&&◌, ◌||◌, eqb, ltb, [], ◌∷◌, length, ◌⊎◌, inl, inr, Some, refl, sym, ap, subst, ◌∙◌, arith, add-zero}
+use Rattle.std.proofs.Common.{◌≡◌, ℕ, zero, suc, ◌+◌, ◌*◌, ◌/◌, ◌%◌, ◌^◌, ◌<◌, Bool, true, false, not, ◌&&◌, ◌||◌, eqb, ltb, [], ◌∷◌, length, ◌⊎◌, inl, inr, Some, refl, sym, ap, subst, ◌∙◌, arith}
 use Rattle.std.specs.Prelude.{if◌then◌else◌, slice_get, bit_and, bit_or, count_ones, min}
 use Rattle.std.specs.List.{range_with_len}
 use Rattle.std.specs.Int.{bit_at, bit_not, Width, trailing_zeros}
@@ -12,9 +12,9 @@ use Rattle.std.proofs.lemmas.Nat.{and_le_l, ones_cat, ones_le_self, pow_pos}
 use Rattle.std.specs.Int.Count.{ones-ones}
 use Rattle.std.proofs.Math.Nat.{mod-eq_of_lt, lt_of_le_of_lt, mod-lt, add_comm}
 use Rattle.std.proofs.lemmas.Nat.Bits.{bit_at-lt, bit_at_and, bit_at-zero, shr_and_one, bit_at-trailing_zeros, bit_at_set_same, bit_at_set_other, bit_at_clear_same, bit_at_clear_other}
-use Rattle.nego_base.specs.Members.{is_in, all_in, any_in, with_member, without_member, RisesFrom, IsRising, IsRisingBelow}
+use Rattle.nego_base.specs.Members.{is_in, all_in, any_in, with_member, without_member, IsRising, IsRisingBelow}
 use Rattle.nego_base.specs.Bits.{members, members-suc, members-zero, mod-suc_bit, word_of, word_of-members, word_of-nil}
-use Rattle.nego_base.proofs.Members.{is_in-filter, is_in-with, is_in-without, rises-filter, All-members, same_below, with-rises, without-rises, all_in-member, all_in-members, any_in-member, any_in-none, head_from_least, first_and_rest, nil_from_none}
+use Rattle.nego_base.proofs.Members.{is_in-range, rises-range, is_in-filter, is_in-with, is_in-without, rises-filter, All-members, same_below, with-rises, without-rises, all_in-member, all_in-members, any_in-member, any_in-none, head_from_least, first_and_rest, nil_from_none}
 
 -- ---- tests
 
@@ -25,24 +25,6 @@ never false = refl
 and_implied : (s t : Bool) → (s ≡ true → t ≡ true) → (s && t) ≡ s
 and_implied true t h = h refl
 and_implied false t h = refl
-
--- ---- a range
-
-is_in-range : (x a n : ℕ) → is_in x (range_with_len a n) ≡ (not (ltb x a) && ltb x (a + n))
-is_in-range x a zero = rw (add-zero a) (none x a)
-  where
-    none : (x a : ℕ) → false ≡ (not (ltb x a) && ltb x a)
-    none x a = grind (arith, nat_tests)
-is_in-range x a (suc n) =
-    let h = is_in-range x (a + 1) n in
-    let e : a + 1 + n ≡ a + suc n = omega arith in
-    let P : ℕ → Type 0 = λ k. is_in x (range_with_len (a + 1) n) ≡ (not (ltb x (a + 1)) && ltb x k) in
-    let t : is_in x (range_with_len (a + 1) n) ≡ (not (ltb x (a + 1)) && ltb x (a + suc n)) = subst P e h in
-    grind (arith, nat_tests)
-
-rises-range : (a n : ℕ) → RisesFrom a (range_with_len a n)
-rises-range a zero = tt
-rises-range a (suc n) = (omega arith, rises-range (a + 1) n)
 
 -- ---- the members
 

@@ -1,3 +1,5 @@
 pub mod Bits
+pub mod Cases
 pub mod LineLaws
 pub mod Members
+pub mod Tests

@@ -1,11 +1,12 @@
 -- Laws on lists of numbers as sets.
-use Rattle.std.proofs.Common.{Some, add-one, ◌≡◌, ℕ, ◌+◌, ◌<◌, ◌≤◌, Bool, true, false, not, cond, ◌&&◌, ◌||◌, eqb, List, [], ◌∷◌, ◌++◌, length, ◌⊎◌, inl, inr, refl, sym, ap, subst, ◌∙◌, arith}
+use Rattle.std.proofs.Common.{Some, add-one, add-zero, ◌≡◌, ◌≢◌, ℕ, zero, suc, ◌+◌, ◌<◌, ◌≤◌, Bool, true, false, not, cond, ◌&&◌, ◌||◌, eqb, ltb, List, [], ◌∷◌, ◌++◌, length, ◌⊎◌, inl, inr, refl, sym, ap, subst, ◌∙◌, arith}
 use Rattle.std.specs.Prelude.{All, slice_get}
-use Rattle.std.specs.List.{filter}
+use Rattle.std.specs.List.{list_all, filter, range_with_len}
 use Rattle.std.proofs.lemmas.Bool.{or_left, or_right, both_ways, false_from_ne_true, or_parts, or_cases, and_parts, and_from, eqb-true, eq-eqb, ne_eqb, cases_eq, cases_lt, cases_order, false≢true, true≢false}
 use Rattle.std.proofs.lemmas.Bool.Decides.{nat_tests}
 use Rattle.std.proofs.lemmas.List.Elements.{All-nil, All-cons, All-head, All-tail, All-filter}
-use Rattle.nego_base.specs.Members.{is_in, all_in, any_in, with_member, without_member, RisesFrom, IsRisingBelow}
+use Rattle.nego_base.specs.Members.{is_in, all_in, any_in, with_member, without_member, RisesFrom, IsRising, IsRisingBelow}
+use Rattle.nego_base.proofs.Tests.{same_tests}
 
 -- ---- membership
 
@@ -48,7 +49,58 @@ All-members P [] h = All-nil P
 All-members P (y ∷ ys) h =
     All-cons P y ys (h y (is_in-head y ys)) (All-members P ys (λ x q. h x (is_in-tail x y ys q)))
 
+-- nothing is a member of the empty list
+pub is_in_none : (x : ℕ) (xs : List ℕ) → xs ≡ [] → is_in x xs ≡ true → ⊥
+is_in_none x xs e h = let P : List ℕ → Type 0 = λ ys. is_in x ys ≡ true in false≢true (subst P e h)
+
+-- the member of a list of one is that one
+pub is_in_single : (x y : ℕ) → is_in x (y ∷ []) ≡ true → x ≡ y
+is_in_single x y h = elim (is_in-cases x y [] h) [ inl e ↦ e | inr q ↦ absurd (false≢true q) ]
+
+-- a list that isn't empty has a member
+pub some_member : (xs : List ℕ) → xs ≢ [] → (x : ℕ) × (is_in x xs ≡ true)
+some_member [] h = absurd (h refl)
+some_member (x ∷ xs) h = (x, is_in-head x xs)
+
+-- a test that each item passes is passed by each member
+pub all_at : (p : ℕ → Bool) (xs : List ℕ) (x : ℕ) → list_all p xs ≡ true → is_in x xs ≡ true → p x ≡ true
+all_at p [] x h k = absurd (false≢true k)
+all_at p (y ∷ ys) x h k =
+    let t = and_parts (p y) (list_all p ys) h in
+    let P : ℕ → Type 0 = λ z. p z ≡ true in
+    elim (is_in-cases x y ys k) [ inl e ↦ subst P (sym e) t.0 | inr m ↦ all_at p ys x t.1 m ]
+
+-- a test that each member passes is passed by each item
+pub all_from : (p : ℕ → Bool) (xs : List ℕ) → ((x : ℕ) → is_in x xs ≡ true → p x ≡ true) → list_all p xs ≡ true
+all_from p [] h = refl
+all_from p (x ∷ xs) h =
+    and_from (p x) (list_all p xs) (h x (is_in-head x xs)) (all_from p xs (λ y k. h y (is_in-tail y x xs k)))
+
+-- the members of a range
+pub is_in-range : (x a n : ℕ) → is_in x (range_with_len a n) ≡ (not (ltb x a) && ltb x (a + n))
+is_in-range x a zero = rw (add-zero a) (none x a)
+  where
+    none : (x a : ℕ) → false ≡ (not (ltb x a) && ltb x a)
+    none x a = grind (arith, nat_tests)
+is_in-range x a (suc n) =
+    let h = is_in-range x (a + 1) n in
+    let e : a + 1 + n ≡ a + suc n = omega arith in
+    let P : ℕ → Type 0 = λ k. is_in x (range_with_len (a + 1) n) ≡ (not (ltb x (a + 1)) && ltb x k) in
+    let t : is_in x (range_with_len (a + 1) n) ≡ (not (ltb x (a + 1)) && ltb x (a + suc n)) = subst P e h in
+    grind (arith, nat_tests)
+
+-- the members of a range from 0
+pub is_in-range_zero : (x n : ℕ) → is_in x (range_with_len 0 n) ≡ ltb x n
+is_in-range_zero x n = is_in-range x 0 n ∙ from_zero (omega arith)
+  where
+    from_zero : 0 + n ≡ n → (not (ltb x 0) && ltb x (0 + n)) ≡ ltb x n
+    from_zero e = grind (arith, nat_tests)
+
 -- ---- rising lists
+
+pub rises-range : (a n : ℕ) → RisesFrom a (range_with_len a n)
+rises-range a zero = tt
+rises-range a (suc n) = (omega arith, rises-range (a + 1) n)
 
 pub rises_more : (low high : ℕ) (xs : List ℕ) → low ≤ high → RisesFrom high xs → RisesFrom low xs
 rises_more low high [] h r = tt
@@ -120,6 +172,16 @@ same_rising low (x ∷ xs) (y ∷ ys) r s h =
           | inl q ↦ grind (arith, nat_tests)
           | inr q ↦ not_in_below (x + 1) z xs r (omega arith) ∙ sym (not_in_below (y + 1) z ys s (omega arith))
         ]
+
+-- a rising list that has a member and no other is the list of that one
+pub rising-single : (xs : List ℕ) (x : ℕ) → IsRising xs → is_in x xs ≡ true → ((y : ℕ) → is_in y xs ≡ true → y ≡ x) → xs ≡ x ∷ []
+rising-single xs x r h same = same_rising 0 xs (x ∷ []) r (omega arith, tt) (λ y. same_tests (is_in y xs) (is_in y (x ∷ [])) (there y) (back y))
+  where
+    there : (y : ℕ) → is_in y xs ≡ true → is_in y (x ∷ []) ≡ true
+    there y m = let P : ℕ → Type 0 = λ z. is_in z (x ∷ []) ≡ true in subst P (sym (same y m)) (is_in-head x [])
+
+    back : (y : ℕ) → is_in y (x ∷ []) ≡ true → is_in y xs ≡ true
+    back y m = let P : ℕ → Type 0 = λ z. is_in z xs ≡ true in subst P (sym (is_in_single y x m)) h
 
 -- ---- a member put in or taken out
 
@@ -251,11 +313,6 @@ any_in-none x xs ys a h = false_from_ne_true (is_in x ys) (λ k. false≢true (s
 pub same_all_in : (low : ℕ) (xs ys : List ℕ) → RisesFrom low xs → RisesFrom low ys → all_in xs ys ≡ true → all_in ys xs ≡ true → xs ≡ ys
 same_all_in low xs ys r s a b =
     same_rising low xs ys r s (λ x. same_tests (is_in x xs) (is_in x ys) (all_in-member x xs ys a) (all_in-member x ys xs b))
-  where
-    same_tests : (s t : Bool) → (s ≡ true → t ≡ true) → (t ≡ true → s ≡ true) → s ≡ t
-    same_tests true t f g = sym (f refl)
-    same_tests false true f g = g refl
-    same_tests false false f g = refl
 
 -- a rising list in another is no longer
 pub length-all_in : (low : ℕ) (xs ys : List ℕ) → RisesFrom low xs → RisesFrom low ys → all_in xs ys ≡ true → length xs ≤ length ys

@@ -3,10 +3,10 @@
 use Rattle.std.specs.Prelude.{ℕ, ◌<◌, ◌≤◌, List, [], ◌∷◌, ◌++◌, Option, Some, None, IfSome, IsTrue, codes, decimal}
 use Rattle.nego_base.specs.declared.ids.AgentId.{AgentId}
 use Rattle.nego_base.specs.Name.{is_name}
-use Rattle.nego_model.specs.declared.cases.Case.{Case}
-use Rattle.nego_model.specs.declared.cases.Set.{Set}
-use Rattle.nego_model.specs.declared.cases.Term.TheVariants as terms
-use Rattle.nego_model.specs.Cases.{rows_of}
+use Rattle.nego_data.specs.declared.cases.Case.{Case}
+use Rattle.nego_data.specs.declared.cases.Set.{Set}
+use Rattle.nego_data.specs.declared.cases.Term.TheVariants as terms
+use Rattle.nego_data.specs.Cases.{rows_of}
 use Rattle.nego_model.specs.Expression.{Base}
 use Rattle.nego_model.specs.Diagram.{PlainDiagram}
 use Rattle.nego_model.specs.Summary.{PlainSummary}

@@ -5,7 +5,7 @@ use Rattle.std.proofs.lemmas.Option.{same_Some}
 use Rattle.nego_model.specs.Negotiation.{Negotiation, IsNegotiation}
 use Rattle.nego_model.specs.Occurring.{PlainMarking, Occurrence, ready, after, opening_marking, final_marking, IsComplete}
 use Rattle.nego_model.specs.Joining.{EndsWith}
-use Rattle.nego_model.proofs.Members.{some_member}
+use Rattle.nego_base.proofs.Members.{some_member}
 use Rattle.nego_model.proofs.Markings.{ready-moved_party, ready-replicate}
 use Rattle.nego_model.proofs.Steps.{after-some, after-outcome, leaves_before, length-run, last_entry}
 

@@ -6,7 +6,7 @@ use Rattle.std.specs.List.{list_all}
 use Rattle.nego_base.specs.Members.{is_in}
 use Rattle.nego_model.specs.Negotiation.{Negotiation}
 use Rattle.nego_model.specs.Occurring.{PlainMarking, ready, moved, enables}
-use Rattle.nego_model.proofs.Members.{all_at, all_from}
+use Rattle.nego_base.proofs.Members.{all_at, all_from}
 
 -- as many agents are there after a move as before
 pub length-moved : (a : ℕ) (parties : List ℕ) (next : ℕ → List ℕ) (marking : PlainMarking) → length (moved a parties next marking) ≡ length marking

@@ -3,21 +3,22 @@ use Rattle.std.proofs.Common.{◌≡◌, ◌≢◌, ◌↔◌, ◌⊎◌, inl, i
 use Rattle.std.proofs.lemmas.Option.{same_Some, none-some}
 use Rattle.std.proofs.lemmas.List.Elements.{All-nil, All-cons}
 use Rattle.std.specs.List.{All}
-use Rattle.nego_base.specs.Members.{is_in}
-use Rattle.nego_model.specs.Negotiation.{Negotiation, IsNegotiation, IsOutcome, IsRising}
+use Rattle.nego_base.specs.Members.{is_in, IsRising}
+use Rattle.nego_model.specs.Negotiation.{Negotiation, IsNegotiation, IsOutcome}
 use Rattle.nego_model.specs.Occurring.{PlainMarking, Occurrence, after, leaves, opening_marking, final_marking, IsComplete, IsSound, CanOccur}
 use Rattle.nego_model.specs.Joining.{Relation, By, Joins, Runs}
-use Rattle.nego_model.specs.Data.{data_count}
-use Rattle.nego_model.specs.Diagram.{PlainDiagram, negotiation_of, relation_of, IsTable, IsDiagram}
-use Rattle.nego_model.specs.Locality.{ActsOn}
+use Rattle.nego_data.specs.Data.{data_count}
+use Rattle.nego_model.specs.Diagram.{PlainDiagram, negotiation_of, relation_of, IsDiagram}
+use Rattle.nego_data.specs.Locality.{ActsOn}
+use Rattle.nego_data.specs.Tables.{IsTable}
 use Rattle.nego_model.specs.Expression.{Base, children, IsNodeList, Means}
 use Rattle.nego_model.specs.Summary.{PlainSummary, Tells}
-use Rattle.nego_model.proofs.Members.{is_in_single, is_in_none}
+use Rattle.nego_base.proofs.Members.{is_in_single, is_in_none}
 use Rattle.nego_model.proofs.Markings.{enables-atom, enables-party}
 use Rattle.nego_model.proofs.Steps.{after-some, after-outcome, leaves-first, run_leaves}
 use Rattle.nego_model.proofs.Joined.{Joins_one, related_from_one}
 use Rattle.nego_model.proofs.CompleteRuns.{opening_not_final}
-use Rattle.nego_model.proofs.Tables.{row-on_data}
+use Rattle.nego_data.proofs.Tables.{row-on_data}
 
 -- one agent of this size, and one atom, first and last, with one outcome of this table
 abbrev pub one_atom : List ℕ → ℕ → List ℕ → List ℕ → List (List ℕ) → PlainDiagram
@@ -67,9 +68,9 @@ module _ (agent : List ℕ) (size : ℕ) (atom outcome : List ℕ) (table : List
   one_atom_negotiation = record {
     first_there = refl;
     last_there = refl;
-    atoms_rise = tt;
-    parties_rise = at_atom (λ n. IsRising (nego.parties n)) tt;
-    outcomes_rise = at_atom (λ n. IsRising (nego.outcomes n)) tt;
+    atoms_rise = (omega arith, tt);
+    parties_rise = at_atom (λ n. IsRising (nego.parties n)) (omega arith, tt);
+    outcomes_rise = at_atom (λ n. IsRising (nego.outcomes n)) (omega arith, tt);
     next_rise = λ n o a h. at_outcome (λ m p. IsRising (nego.next p a)) (subst IsRising (sym (no_next a)) tt) n o h;
     one_atom = λ m n o h k. atom_zero m h.0 ∙ sym (atom_zero n k.0);
     party_below = λ n a h k.

@@ -3,15 +3,15 @@ use Rattle.std.proofs.Common.{◌≡◌, ℕ, ◌<◌, true, false, List, [], �
 use Rattle.std.proofs.lemmas.Bool.{or_left}
 use Rattle.std.proofs.lemmas.List.Elements.{All-nil, All-cons}
 use Rattle.std.specs.List.{All, list_all}
-use Rattle.nego_model.specs.declared.cases.Term.TheVariants as terms
-use Rattle.nego_model.specs.declared.cases.Set.{Set}
-use Rattle.nego_model.specs.declared.cases.Case.{Case}
-use Rattle.nego_model.specs.Data.{data_count, split}
-use Rattle.nego_model.specs.Cases.{test_holds, covers, rows_of}
-use Rattle.nego_model.specs.CaseForm.{AssignsBelow, IsCovered, FitsSize}
+use Rattle.nego_data.specs.declared.cases.Term.TheVariants as terms
+use Rattle.nego_data.specs.declared.cases.Set.{Set}
+use Rattle.nego_data.specs.declared.cases.Case.{Case}
+use Rattle.nego_data.specs.Data.{data_count, split}
+use Rattle.nego_data.specs.Cases.{test_holds, covers, rows_of}
+use Rattle.nego_data.specs.CaseForm.{AssignsBelow, IsCovered, FitsSize}
 use Rattle.nego_model.specs.Diagram.{IsDiagram}
-use Rattle.nego_model.proofs.Tables.{rows_of-table, rows_of-relates}
-use Rattle.nego_model.proofs.CaseRelations.{related_from_covered}
+use Rattle.nego_data.proofs.Tables.{rows_of-table, rows_of-relates}
+use Rattle.nego_data.proofs.CaseRelations.{related_from_covered}
 use Rattle.nego_model.proofs.OneAtom.{one_atom, one_atom_diagram}
 
 -- a diagram of one atom, where the cases' numbers fit and cover all data

@@ -3,8 +3,9 @@ use Rattle.std.specs.Prelude.{◌≡◌, ℕ, ◌+◌, ◌<◌, false, ◌==◌,
 use Rattle.std.specs.List.{range_with_len}
 use Rattle.std.specs.Option.{option_map_or}
 use Rattle.nego_base.specs.Members.{is_in}
-use Rattle.nego_model.specs.Negotiation.{Negotiation, IsNegotiation, IsRising}
-use Rattle.nego_model.specs.Data.{data_count}
+use Rattle.nego_data.specs.Data.{data_count}
+use Rattle.nego_data.specs.Tables.{IsTable}
+use Rattle.nego_model.specs.Negotiation.{Negotiation, IsNegotiation}
 use Rattle.nego_model.specs.Joining.{RelationTest, By}
 use Rattle.nego_model.specs.Locality.{IsLocal, IsTotal}
 
@@ -63,12 +64,6 @@ negotiation_of diagram = record {
 -- whether an outcome relates joint data to joint data
 abbrev pub relation_of : PlainDiagram → RelationTest
 relation_of diagram o d e = option_map_or (λ outcome. is_in e (slice_index_or outcome.table d [])) (slice_get diagram.outcomes o) false
-
--- A table has a row for each of so many joint data, and each row is a rising list of such data.
-pub record IsTable (count : ℕ) (table : List (List ℕ)) : Type 0 where
-  pub rows : length table ≡ count
-  pub rise : All IsRising table
-  pub on_data : All (λ row. All (λ e. e < count) row) table
 
 -- Plain data are a diagram: they are a negotiation, and each outcome is of an atom; each agent has a size above 0;
 -- the outcomes' tables are tables of joint data, are total, and read and change the values of their atoms' parties

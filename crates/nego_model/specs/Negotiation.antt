@@ -1,7 +1,7 @@
 -- A negotiation: what may be asked of its form. Agents are the numbers below a count. Atoms and outcomes have
 -- numbers of their own, so that a negotiation from which some were taken is one too.
-use Rattle.std.specs.Prelude.{◌≡◌, ◌≢◌, ◌⊎◌, ℕ, ◌<◌, List, [], ◌∷◌, IsTrue}
-use Rattle.nego_base.specs.Members.{is_in}
+use Rattle.std.specs.Prelude.{◌≡◌, ◌≢◌, ◌⊎◌, ℕ, ◌<◌, List, [], IsTrue}
+use Rattle.nego_base.specs.Members.{is_in, IsRising}
 
 -- the count of agents; the atoms' numbers; an atom's parties; the numbers of an atom's outcomes, in their order;
 -- the next atoms of an agent after an outcome; the first and the last atom
@@ -13,12 +13,6 @@ pub record Negotiation : Type 0 where
   pub next : ℕ → ℕ → List ℕ
   pub first : ℕ
   pub last : ℕ
-
--- Each number is below the one after it.
-abbrev pub IsRising : List ℕ → Type 0
-IsRising [] = Unit {0}
-IsRising (x ∷ []) = Unit {0}
-IsRising (x ∷ y ∷ ys) = (x < y) × IsRising (y ∷ ys)
 
 -- n is an atom, and o one of its outcomes.
 abbrev pub IsOutcome : Negotiation → ℕ → ℕ → Type 0

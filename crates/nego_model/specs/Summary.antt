@@ -5,7 +5,7 @@ use Rattle.nego_model.specs.Joining.{By, Runs}
 use Rattle.nego_model.specs.Occurring.{IsSound}
 use Rattle.nego_model.specs.Expression.{PlainNode, IsNodeList, Means}
 use Rattle.nego_model.specs.Diagram.{PlainDiagram, negotiation_of, relation_of, outcome_name}
-use Rattle.nego_model.specs.Data.{data_count}
+use Rattle.nego_data.specs.Data.{data_count}
 
 -- a final outcome: its name and its node
 pub record PlainFinal : Type 0 where

@@ -7,20 +7,20 @@ use Rattle.std.proofs.lemmas.List.Elements.{All-head, All-tail, All-weaker}
 use Rattle.std.specs.List.{All, list_any}
 use Rattle.std.specs.Bool.{⊤}
 use Rattle.nego_base.specs.Members.{is_in}
-use Rattle.nego_model.specs.declared.cases.Operand.{Operand}
-use Rattle.nego_model.specs.declared.cases.Operand.TheVariants as operands
-use Rattle.nego_model.specs.declared.cases.Term.{Term}
-use Rattle.nego_model.specs.declared.cases.Term.TheVariants as terms
-use Rattle.nego_model.specs.declared.cases.Test.{Test}
-use Rattle.nego_model.specs.declared.cases.Set.{Set}
-use Rattle.nego_model.specs.declared.cases.Case.{Case}
-use Rattle.nego_model.specs.Data.{data_count, split, joint}
-use Rattle.nego_model.specs.Cases.{compares, operand_value, test_holds, gives, term_for, covers, agent_follows, agents_follow, case_relates, relates}
-use Rattle.nego_model.specs.CaseForm.{operand_agents, term_agents, AreAmong, NamesOnly, FitsSize, AssignsBelow, IsCovered}
-use Rattle.nego_model.specs.Locality.{AgreeOn, ActsOn}
-use Rattle.nego_model.proofs.Members.{passing_item, any_passes, all_pass}
-use Rattle.nego_model.proofs.JointData.{length-split, split-below, AreValues, joint-below, split-joint}
-use Rattle.nego_model.proofs.Tables.{relates-on_data}
+use Rattle.nego_data.specs.declared.cases.Operand.{Operand}
+use Rattle.nego_data.specs.declared.cases.Operand.TheVariants as operands
+use Rattle.nego_data.specs.declared.cases.Term.{Term}
+use Rattle.nego_data.specs.declared.cases.Term.TheVariants as terms
+use Rattle.nego_data.specs.declared.cases.Test.{Test}
+use Rattle.nego_data.specs.declared.cases.Set.{Set}
+use Rattle.nego_data.specs.declared.cases.Case.{Case}
+use Rattle.nego_data.specs.Data.{data_count, split, joint}
+use Rattle.nego_data.specs.Cases.{compares, operand_value, test_holds, gives, term_for, covers, agent_follows, agents_follow, case_relates, relates}
+use Rattle.nego_data.specs.CaseForm.{operand_agents, term_agents, AreAmong, NamesOnly, FitsSize, AssignsBelow, IsCovered}
+use Rattle.nego_data.specs.Locality.{AgreeOn, ActsOn}
+use Rattle.nego_base.proofs.Tests.{passing_item, any_passes, all_pass}
+use Rattle.nego_data.proofs.JointData.{length-split, split-below, AreValues, joint-below, split-joint}
+use Rattle.nego_data.proofs.Tables.{relates-on_data}
 
 -- each agent follows its assignment where all do
 pub agents_follow-at : (n : ℕ) (sizes : List ℕ) (sets : List Set) (old new : List ℕ) → IsTrue (agents_follow n sizes sets old new) → (a : ℕ) → a < length sizes →

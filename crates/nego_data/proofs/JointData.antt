@@ -3,7 +3,7 @@ use Rattle.std.proofs.Common.{◌≡◌, ℕ, zero, suc, ◌+◌, ◌*◌, ◌/�
 use Rattle.std.proofs.lemmas.Nat.{div_below, mod_below, div-add-mod', div-mul-add, mod-mul-add, mul-add-lt}
 use Rattle.std.proofs.lemmas.List.{ext_get_or}
 use Rattle.std.proofs.Math.Nat.{mul_comm, pos_of_ne-zero, mul-zero}
-use Rattle.nego_model.specs.Data.{data_count, split, joint}
+use Rattle.nego_data.specs.Data.{data_count, split, joint}
 
 -- Each agent of these sizes has a value below its size.
 pub record AreValues (sizes values : List ℕ) : Type 0 where

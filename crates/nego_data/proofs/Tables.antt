@@ -1,29 +1,22 @@
 -- Laws of tables of joint data, and of the tables that cases make.
-use Rattle.std.proofs.Common.{◌≡◌, ⊎_elim, ℕ, ◌<◌, ◌≤◌, Bool, true, false, ◌&&◌, nat_lt, List, [], length, filter, slice_index_or, IsTrue, refl, sym, subst, ap, ◌∙◌, arith, ltb-true, le-ltb}
-use Rattle.std.proofs.lemmas.Bool.{and_parts, and_left, cases_lt}
+use Rattle.std.proofs.Common.{◌≡◌, ⊎_elim, ℕ, ◌<◌, ◌≤◌, true, ◌&&◌, nat_lt, List, [], length, filter, slice_index_or, IsTrue, sym, subst, ap, ◌∙◌, arith, ltb-true, lt-ltb, le-ltb}
+use Rattle.std.proofs.lemmas.Bool.{and_parts, and_from, and_left, cases_lt}
 use Rattle.std.proofs.lemmas.List.{get_or_past}
 use Rattle.std.proofs.lemmas.List.FromFn.{length-map-range_with_len, get_or-map-range_with_len}
 use Rattle.std.proofs.lemmas.List.Elements.{All-from_get_or}
 use Rattle.std.specs.List.{All, list_any}
-use Rattle.nego_base.specs.Members.{is_in}
-use Rattle.nego_model.specs.declared.cases.Case.{Case}
-use Rattle.nego_model.specs.Negotiation.{IsRising}
-use Rattle.nego_model.specs.Data.{data_count, split}
-use Rattle.nego_model.specs.Cases.{relates, case_relates, all_data, rows_of}
-use Rattle.nego_model.specs.Diagram.{IsTable}
-use Rattle.nego_model.proofs.Members.{All-member, All-from_members}
-use Rattle.nego_model.proofs.Rising.{is_in-filter, is_in_filter, rising-filter, is_in_range, rising-range}
+use Rattle.nego_base.specs.Members.{is_in, IsRising}
+use Rattle.nego_data.specs.declared.cases.Case.{Case}
+use Rattle.nego_data.specs.Data.{data_count, split}
+use Rattle.nego_data.specs.Cases.{relates, case_relates, all_data, rows_of}
+use Rattle.nego_data.specs.Tables.{IsTable}
+use Rattle.nego_base.proofs.Members.{All-member, All-members, is_in-filter, is_in-range_zero, rises-filter, rises-range}
+use Rattle.nego_base.proofs.Tests.{same_tests}
 
 -- a row of a table has joint data alone
 pub row-on_data : (count : ℕ) (table : List (List ℕ)) (d e : ℕ) → IsTable count table → d < count → IsTrue (is_in e (slice_index_or table d [])) → e < count
 row-on_data count table d e ok h k =
-    All-member (λ x. x < count) (slice_index_or table d []) e (ok.on_data d [] (subst (λ n. d < n) (sym ok.rows) h)) k
-
--- tests are one where each passes what the other does
-pub same_tests : (one two : Bool) → (IsTrue one → IsTrue two) → (IsTrue two → IsTrue one) → one ≡ two
-same_tests true two h k = sym (h refl)
-same_tests false true h k = k refl
-same_tests false false h k = refl
+    All-member (λ x. x < count) e (slice_index_or table d []) (ok.on_data d [] (subst (λ n. d < n) (sym ok.rows) h)) k
 
 -- what cases relate are joint data
 pub relates-on_data : (sizes : List ℕ) (cases : List Case) (d e : ℕ) → IsTrue (relates sizes cases d e) →
@@ -49,11 +42,16 @@ row-rows_of sizes cases d h =
 pub rows_of-relates : (sizes : List ℕ) (cases : List Case) (d e : ℕ) → is_in e (slice_index_or (rows_of sizes cases) d []) ≡ relates sizes cases d e
 rows_of-relates sizes cases d e = ⊎_elim within past (cases_lt d (data_count sizes))
   where
+    -- what is related is on the joint data
+    implied : (relates sizes cases d e && nat_lt e (data_count sizes)) ≡ relates sizes cases d e
+    implied = same_tests (relates sizes cases d e && nat_lt e (data_count sizes)) (relates sizes cases d e)
+        (λ k. (and_parts (relates sizes cases d e) (nat_lt e (data_count sizes)) k).0)
+        (λ k. and_from (relates sizes cases d e) (nat_lt e (data_count sizes)) k (lt-ltb e (data_count sizes) (relates-on_data sizes cases d e k).1))
+
     within : d < data_count sizes → is_in e (slice_index_or (rows_of sizes cases) d []) ≡ relates sizes cases d e
-    within h = ap (is_in e) (row-rows_of sizes cases d h) ∙ same_tests (is_in e (filter (relates sizes cases d) (all_data sizes))) (relates sizes cases d e)
-        (λ k. (is_in-filter (relates sizes cases d) (all_data sizes) e k).0)
-        (λ k. let below : e < data_count sizes = (relates-on_data sizes cases d e k).1 in
-        is_in_filter (relates sizes cases d) (all_data sizes) e k (is_in_range 0 (data_count sizes) e (omega arith) (omega (arith, below))))
+    within h = ap (is_in e) (row-rows_of sizes cases d h)
+        ∙ (is_in-filter (relates sizes cases d) e (all_data sizes)
+        ∙ (ap (λ b. relates sizes cases d e && b) (is_in-range_zero e (data_count sizes)) ∙ implied))
 
     past : data_count sizes ≤ d → is_in e (slice_index_or (rows_of sizes cases) d []) ≡ relates sizes cases d e
     past h = ap (is_in e) (get_or_past (rows_of sizes cases) d [] (subst (λ n. n ≤ d) (sym (length-rows_of sizes cases)) h))
@@ -63,9 +61,9 @@ rows_of-relates sizes cases d e = ⊎_elim within past (cases_lt d (data_count s
 pub rows_of-table : (sizes : List ℕ) (cases : List Case) → IsTable (data_count sizes) (rows_of sizes cases)
 rows_of-table sizes cases = record {
   rows = length-rows_of sizes cases;
-  rise = All-from_get_or IsRising (rows_of sizes cases) [] (λ d h. subst IsRising (sym (row-rows_of sizes cases d (at d h))) (rising-filter (relates sizes cases d) (all_data sizes) (rising-range 0 (data_count sizes))));
+  rise = All-from_get_or IsRising (rows_of sizes cases) [] (λ d h. subst IsRising (sym (row-rows_of sizes cases d (at d h))) (rises-filter (relates sizes cases d) 0 (all_data sizes) (rises-range 0 (data_count sizes))));
   on_data = All-from_get_or (All (λ e. e < data_count sizes)) (rows_of sizes cases) [] (λ d h.
-      All-from_members (λ e. e < data_count sizes) (slice_index_or (rows_of sizes cases) d []) (λ e k.
+      All-members (λ e. e < data_count sizes) (slice_index_or (rows_of sizes cases) d []) (λ e k.
       (relates-on_data sizes cases d e (subst (λ b. b ≡ true) (rows_of-relates sizes cases d e) k)).1));
 }
   where

@@ -3,14 +3,14 @@ use Rattle.std.specs.Prelude.{ℕ, ◌+◌, ◌-◌, min, Bool, true, not, ◌&&
 use Rattle.std.specs.List.{list_any, list_all, range_with_len}
 use Rattle.nego_base.specs.declared.op.Op.{Op}
 use Rattle.nego_base.specs.declared.op.Op.TheVariants.{Eq, Ne, Lt, Le, Gt, Ge}
-use Rattle.nego_model.specs.declared.cases.Operand.{Operand}
-use Rattle.nego_model.specs.declared.cases.Operand.TheVariants as operands
-use Rattle.nego_model.specs.declared.cases.Term.{Term}
-use Rattle.nego_model.specs.declared.cases.Term.TheVariants as terms
-use Rattle.nego_model.specs.declared.cases.Test.{Test}
-use Rattle.nego_model.specs.declared.cases.Set.{Set}
-use Rattle.nego_model.specs.declared.cases.Case.{Case}
-use Rattle.nego_model.specs.Data.{data_count, split}
+use Rattle.nego_data.specs.declared.cases.Operand.{Operand}
+use Rattle.nego_data.specs.declared.cases.Operand.TheVariants as operands
+use Rattle.nego_data.specs.declared.cases.Term.{Term}
+use Rattle.nego_data.specs.declared.cases.Term.TheVariants as terms
+use Rattle.nego_data.specs.declared.cases.Test.{Test}
+use Rattle.nego_data.specs.declared.cases.Set.{Set}
+use Rattle.nego_data.specs.declared.cases.Case.{Case}
+use Rattle.nego_data.specs.Data.{data_count, split}
 
 -- whether the comparison of two numbers holds
 abbrev pub compares : Op → ℕ → ℕ → Bool

@@ -2,13 +2,13 @@
 use Rattle.std.specs.Prelude.{ℕ, ◌<◌, List, [], ◌∷◌, slice_index, IsTrue, ⊤}
 use Rattle.std.specs.List.{All, list_any}
 use Rattle.nego_base.specs.Members.{is_in}
-use Rattle.nego_model.specs.declared.cases.Operand.{Operand}
-use Rattle.nego_model.specs.declared.cases.Operand.TheVariants as operands
-use Rattle.nego_model.specs.declared.cases.Term.{Term}
-use Rattle.nego_model.specs.declared.cases.Term.TheVariants as terms
-use Rattle.nego_model.specs.declared.cases.Case.{Case}
-use Rattle.nego_model.specs.Data.{split}
-use Rattle.nego_model.specs.Cases.{covers}
+use Rattle.nego_data.specs.declared.cases.Operand.{Operand}
+use Rattle.nego_data.specs.declared.cases.Operand.TheVariants as operands
+use Rattle.nego_data.specs.declared.cases.Term.{Term}
+use Rattle.nego_data.specs.declared.cases.Term.TheVariants as terms
+use Rattle.nego_data.specs.declared.cases.Case.{Case}
+use Rattle.nego_data.specs.Data.{split}
+use Rattle.nego_data.specs.Cases.{covers}
 
 -- the agents that the right side of a comparison names
 abbrev pub operand_agents : Operand → List ℕ

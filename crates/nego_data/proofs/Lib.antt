@@ -1,0 +1,3 @@
+pub mod JointData
+pub mod Tables
+pub mod CaseRelations

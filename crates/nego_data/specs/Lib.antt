@@ -1,0 +1,5 @@
+pub mod Data
+pub mod Cases
+pub mod CaseForm
+pub mod Locality
+pub mod Tables

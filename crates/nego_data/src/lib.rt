@@ -1,0 +1,4 @@
+//! Joint data of the agents, the cases of outcomes, and the tables of the relations that they are.
+#![tactic(auto)]
+
+pub mod cases;
