@@ -1,4 +1,5 @@
 pub mod EndLaws
+pub mod FoundLaws
 pub mod FrontLaws
 pub mod OutsideLaws
 pub mod PartLaws

@@ -30,7 +30,7 @@ taken_then_failed n bytes old mid new fits first second =
 -- These bytes are a part, and all of them were taken.
 pub taken_part : (limit : ℕ) (part : Part) (old new : Option (List ℕ)) → IsClosed part.bytes → length part.bytes ≤ limit → Takes part.bytes old new → WhereTold old new (Answers limit (Ok part))
 taken_part limit part old new closed fits =
-    told_so (λ before now. before ≡ part.bytes ++ now) (Answers limit (Ok part)) old new (λ before now e. ap (reading limit) e ∙ reading_closed limit part.bytes now closed fits)
+    told_so (λ before now. before ≡ part.bytes ++ now) (Answers limit (Ok part)) old new (λ before now e. (e, ap (reading limit) e ∙ reading_closed limit part.bytes now closed fits))
 
 -- The input ended after these bytes.
 pub taken_all : (bytes : List ℕ) (old mid new : Option (List ℕ)) → Takes bytes old mid → Takes [] mid new → WhereTold mid new (λ before _. before ≡ []) → WhereTold old new (λ before now. (before ≡ bytes) × (now ≡ []))
@@ -49,11 +49,14 @@ pub answer_of : (bytes : List ℕ) (r : Result Part ReadAnswer) → IfOk r (λ p
 answer_of bytes (Ok part) ok err = ok
 answer_of bytes (Err e) ok err = (err.0, (let same = err.1 in cc))
 
+all_there : (before now bytes mine : List ℕ) → before ≡ bytes → now ≡ [] → mine ≡ bytes → before ≡ mine ++ now
+all_there before now bytes mine e none same = e ∙ (sym same ∙ (sym (append-nil mine) ∙ ap (λ t. mine ++ t) (sym none)))
+
 pub answers_all : (limit : ℕ) (bytes : List ℕ) (r : Result Part ReadAnswer) (old new : Option (List ℕ)) → IsAnswerOf bytes r → length bytes ≤ limit →
     WhereTold old new (λ before now. (before ≡ bytes) × (now ≡ [])) → WhereTold old new (Answers limit r)
 answers_all limit bytes (Ok part) old new is fits all =
     told_so (λ before now. (before ≡ bytes) × (now ≡ [])) (Answers limit (Ok part)) old new
-    (λ before now e. rw (e.0, e.1, is.0) (reading_all limit bytes is.1 fits)) all
+    (λ before now e. (all_there before now bytes part.bytes e.0 e.1 is.0, rw (e.0, e.1, is.0) (reading_all limit bytes is.1 fits))) all
 answers_all limit bytes (Err e) old new is fits all =
     rw is.1 (told_so (λ before now. (before ≡ bytes) × (now ≡ [])) (Answers limit (Err (NoEnd (1 + newlines bytes)))) old new
     (λ before now e. (ap (reading limit) e.0 ∙ reading_none limit bytes is.0 fits, e.1)) all)

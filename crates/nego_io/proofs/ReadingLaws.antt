@@ -8,7 +8,7 @@ use Rattle.nego_io.specs.Front.{IsOpen, IsClosed}
 use Rattle.nego_io.proofs.FrontLaws.{part_beyond}
 
 -- an input that begins with a part within the limit
-reading_part : (limit : ℕ) (input part : List ℕ) → part_of input ≡ Some part → length part ≤ limit → reading limit input ≡ Whole part (drop (length part) input)
+pub reading_part : (limit : ℕ) (input part : List ℕ) → part_of input ≡ Some part → length part ≤ limit → reading limit input ≡ Whole part (drop (length part) input)
 unfolding reading
 reading_part limit input part found fits =
     ap (λ o. option_map_or (ended limit input) o (unended limit input)) found ∙ cond-true _ _ _ (le-leb _ _ fits)

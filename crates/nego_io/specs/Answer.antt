@@ -13,7 +13,7 @@ TakesUpTo n before now = (front : List ℕ) × ((before ≡ front ++ now) × (le
 -- What the answer says of what was left before and what is left now. No two answers but the faults have one cause,
 -- so each comes exactly where its cause stands and no fault came before.
 abbrev pub Answers : ℕ → Result Part ReadAnswer → List ℕ → List ℕ → Type 0
-Answers limit (Ok part) before now = reading limit before ≡ Whole part.bytes now
+Answers limit (Ok part) before now = (before ≡ part.bytes ++ now) × (reading limit before ≡ Whole part.bytes now)
 Answers limit (Err ReadFault) before now = TakesUpTo (limit + 1) before now
 Answers limit (Err TooLong) before now = (reading limit before ≡ PastLimit) × (now ≡ drop (limit + 1) before)
 Answers limit (Err (NoEnd line)) before now = (reading limit before ≡ Unended line) × (now ≡ [])

@@ -1,4 +1,6 @@
 pub mod Answer
+pub mod Calls
 pub mod Front
+pub mod Laws
 pub mod Outside
 pub mod Part

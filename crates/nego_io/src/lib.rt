@@ -1,15 +1,22 @@
 //! The outside as traits, and parts of input: what a program takes, what it puts, and what is told of both.
 #![tactic(auto)]
 
+mod calls;
 mod failed;
 mod front;
+mod laws;
 mod lines;
+mod mem_sink;
+mod mem_source;
 mod part;
 mod put;
 mod sink;
 mod source;
 
 pub use failed::Failed;
+pub use laws::{ends_of_lines, lines_of_a_text, parts_of_an_input, words_of_a_text};
+pub use mem_sink::MemSink;
+pub use mem_source::MemSource;
 pub use part::{Part, ReadAnswer, read_part};
 pub use put::{WriteFault, put_all};
 pub use sink::Sink;
