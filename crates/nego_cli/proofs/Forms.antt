@@ -2,12 +2,14 @@
 use Rattle.std.proofs.Common.{◌≡◌, ℕ, ◌<◌, ◌≤◌, true, ◌&&◌, cond, eqb, leb, ltb, List, [], ◌∷◌, ◌++◌, length, Option, Some, None, refl, sym, ap, subst, ◌∙◌, arith}
 use Rattle.std.specs.Prelude.{IsTrue, IfSome, option_map, codes, decimal}
 use Rattle.std.specs.Option.{option_map_or}
-use Rattle.std.proofs.lemmas.Bool.{eqb-true, lt-ltb, ltb-true, leb-true, le-leb}
+use Rattle.std.proofs.lemmas.Bool.{and_parts, eqb-true, lt-ltb, ltb-true, leb-true, le-leb}
 use Rattle.std.proofs.lemmas.List.{nil_from_length}
+use Rattle.std.proofs.lemmas.Option.{cond_some}
+use Rattle.nego_base.proofs.Cases.{bind_some}
 use Rattle.nego_base.specs.Name.{is_name}
 use Rattle.nego_cli.specs.Small.{SmallForm, IsSmall, case_line, small_text}
 use Rattle.nego_cli.specs.Reading.{◌>>=◌, behind_text, name_before, digit_of, number_at, agent_at, atom_at, assigned_at, case_at, ends_at, numbers_fit, form_at}
-use Rattle.nego_cli.proofs.Pieces.{bind_some, guard, both, carried, behind_takes, behind_again, name_takes, name_again, number_takes, number_again}
+use Rattle.nego_cli.proofs.Pieces.{carried, behind_takes, behind_again, name_takes, name_again, number_takes, number_again}
 
 newline_ends : digit_of 10 ≡ None
 unfolding digit_of
@@ -158,8 +160,8 @@ value_small size (Some v) high below = omega arith
 
 fit : (size : ℕ) (value : Option ℕ) → numbers_fit size value ≡ true → (0 < size) × (size ≤ 64) × IfSome value (λ v. v < size)
 fit size value e =
-    let outer = both (ltb 0 size && leb size 64) (option_map_or (λ v. ltb v size) value true) e in
-    let inner = both (ltb 0 size) (leb size 64) outer.0 in
+    let outer = and_parts (ltb 0 size && leb size 64) (option_map_or (λ v. ltb v size) value true) e in
+    let inner = and_parts (ltb 0 size) (leb size 64) outer.0 in
     (ltb-true 0 size inner.0, leb-true size 64 inner.1, value_below size value outer.1)
 
 fit_again : (form : SmallForm) → IsSmall form → numbers_fit form.size form.value ≡ true
@@ -191,8 +193,8 @@ form_takes bytes form e =
     let b = bind_some (atom_at a.0.0 a.0.2) (λ atom. case_at a.0.0 atom.2 >>= λ case. ends_at atom.0 case.1 >>= λ rest. cond (eqb (length rest) 0 && numbers_fit a.0.1 case.0) (Some (made a.0 atom case)) None) form a.2 in
     let c = bind_some (case_at a.0.0 b.0.2) (λ case. ends_at b.0.0 case.1 >>= λ rest. cond (eqb (length rest) 0 && numbers_fit a.0.1 case.0) (Some (made a.0 b.0 case)) None) form b.2 in
     let d = bind_some (ends_at b.0.0 c.0.1) (λ rest. cond (eqb (length rest) 0 && numbers_fit a.0.1 c.0.0) (Some (made a.0 b.0 c.0)) None) form c.2 in
-    let passed = guard (eqb (length d.0) 0 && numbers_fit a.0.1 c.0.0) (made a.0 b.0 c.0) form d.2 in
-    let parts = both (eqb (length d.0) 0) (numbers_fit a.0.1 c.0.0) passed.0 in
+    let passed = cond_some (eqb (length d.0) 0 && numbers_fit a.0.1 c.0.0) (made a.0 b.0 c.0) form d.2 in
+    let parts = and_parts (eqb (length d.0) 0) (numbers_fit a.0.1 c.0.0) passed.0 in
     let numbers = fit a.0.1 c.0.0 parts.1 in
     let agent = agent_takes bytes a.0 a.1 in
     let atom = atom_takes a.0.0 a.0.2 b.0 b.1 in

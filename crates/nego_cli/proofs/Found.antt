@@ -63,13 +63,13 @@ left_behind : (input part left : List ℕ) → reading PART_LIMIT input ≡ Whol
 left_behind input part left e = ap (behind input) (sym e)
 
 pub found_part : (words : List (List ℕ)) (source : Change) (part : List ℕ) (answer : Answer) → words ≡ reduce_words →
-    WhereTold source.before source.after (λ input left. reading PART_LIMIT input ≡ Whole part left) → IsReduction part answer → IsFound words source answer
+    WhereTold source.before source.after (λ input left. (input ≡ part ++ left) × (reading PART_LIMIT input ≡ Whole part left)) → IsReduction part answer → IsFound words source answer
 found_part words source part (answers.Reduced text) right told (form, small, spelled, text_is) = (
   form,
   text_is,
   record {
     holds = (right, small, small_diagram form small, small_tells form small);
-    input = told_then source.before source.after _ _ (λ input left e. ((right, small, (left, e ∙ ap (λ (t : List ℕ). Whole t left) spelled)), left_behind input part left e)) told;
+    input = told_then source.before source.after _ _ (λ input left e. ((right, small, (left, e.1 ∙ ap (λ (t : List ℕ). Whole t left) spelled)), left_behind input part left e.1)) told;
   },
 )
 found_part words source part (answers.Refused line) right told (other, line_is) = (
@@ -77,10 +77,10 @@ found_part words source part (answers.Refused line) right told (other, line_is) 
   line_is,
   record {
     holds = right;
-    input = told_then source.before source.after _ _ (λ input left e. ((right, (part, left, e, other)), left_behind input part left e)) told;
+    input = told_then source.before source.after _ _ (λ input left e. ((right, (part, left, e.1, other)), left_behind input part left e.1)) told;
   },
 )
-found_part words source part answers.Memory right told h = told_then source.before source.after _ _ (λ input left e. took_whole input part left e) told
+found_part words source part answers.Memory right told h = told_then source.before source.after _ _ (λ input left e. took_whole input part left e.1) told
 found_part words source part answers.BadWords right told h = absurd h
 found_part words source part answers.ReadFault right told h = absurd h
 

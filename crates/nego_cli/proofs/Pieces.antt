@@ -5,50 +5,30 @@ use Rattle.std.specs.List.{list_all, position_or_len}
 use Rattle.std.specs.Option.{option_map_or}
 use Rattle.std.specs.Str.{bytes_eq}
 use Rattle.std.proofs.Math.Seq.{split_at, drop-append-add}
-use Rattle.std.proofs.lemmas.Bool.{cases_lt, false≢true, eqb-true, eq-eqb, lt-ltb, ltb-true, leb-true, le-leb}
+use Rattle.std.proofs.lemmas.Bool.{and_parts, cases_lt, false≢true, eqb-true, eq-eqb, lt-ltb, ltb-true, leb-true, le-leb}
 use Rattle.std.proofs.lemmas.Fmt.{decimal_digit, decimal_step}
 use Rattle.std.proofs.lemmas.List.{take_at, drop_at, take-append-drop, length-append}
 use Rattle.std.proofs.lemmas.List.Quantifiers.{position-Some}
+use Rattle.std.proofs.lemmas.Option.{cond_some, same_Some}
 use Rattle.std.proofs.lemmas.Slice.Eq.{bytes_eq-Decides}
 use Rattle.nego_base.specs.Name.{is_name, is_name_byte}
+use Rattle.nego_base.proofs.Cases.{bind_some, chosen}
 use Rattle.nego_cli.specs.Reading.{◌>>=◌, behind_text, name_before, digit_of, number_from, number_at}
-
--- a step that gave something
-pub bind_some : {A B : Type 0} (o : Option A) (f : A → Option B) (y : B) → (o >>= f) ≡ Some y → (x : A) × (o ≡ Some x) × (f x ≡ Some y)
-bind_some None f y e = absurd cc
-bind_some (Some x) f y e = (x, refl, e)
-
--- a test that passed
-pub guard : {A : Type 0} (b : Bool) (x y : A) → cond b (Some x) None ≡ Some y → (b ≡ true) × (x ≡ y)
-guard true x y e = (refl, cc)
-guard false x y e = absurd cc
-
-pub both : (s t : Bool) → (s && t) ≡ true → (s ≡ true) × (t ≡ true)
-both true t e = (refl, e)
-both false t e = absurd cc
-
--- which way an if went
-pub chosen : {A : Type 0} (t : Bool) (x y z : A) → cond t x y ≡ z → ((t ≡ true) × (x ≡ z)) ⊎ ((t ≡ false) × (y ≡ z))
-chosen true x y z e = inl (refl, e)
-chosen false x y z e = inr (refl, e)
 
 same_both : {A : Type 0} (t : Bool) (x : A) → cond t x x ≡ x
 same_both true x = refl
 same_both false x = refl
 
-pub some-is : {A : Type 0} (x y : A) → ◌≡◌ {A = Option A} (Some x) (Some y) → x ≡ y
-some-is x y e = cc
-
 -- what holds of what was read holds of what it is said to be
 pub carried : {A : Type 0} (P : A → Type 0) (x y : A) → ◌≡◌ {A = Option A} (Some x) (Some y) → P x → P y
-carried P x y e h = subst P (some-is x y e) h
+carried P x y e h = subst P (same_Some x y e) h
 
 -- ---- texts
 
 pub behind_takes : (text bytes rest : List ℕ) → behind_text text bytes ≡ Some rest → bytes ≡ text ++ rest
 unfolding behind_text
 behind_takes text bytes rest e =
-    let g = guard (bytes_eq (take (length text) bytes) text) (drop (length text) bytes) rest e in
+    let g = cond_some (bytes_eq (take (length text) bytes) text) (drop (length text) bytes) rest e in
     let front : take (length text) bytes ≡ text = (bytes_eq-Decides (take (length text) bytes) text).0 g.0 in
     sym (take-append-drop (length text) bytes) ∙ (ap (λ (t : List ℕ). t ++ drop (length text) bytes) front ∙ ap (λ (t : List ℕ). text ++ t) g.1)
 
@@ -70,7 +50,7 @@ unfolding name_before
 name_takes end bytes name rest e =
     let place = bind_some (position (λ b. eqb b end) bytes) (λ n. cond (is_name (take n bytes)) (Some (take n bytes, drop (n + 1) bytes)) None) (name, rest) e in
     let at = position-Some (λ b. eqb b end) bytes place.0 0 place.1 in
-    let taken = guard (is_name (take place.0 bytes)) (take place.0 bytes, drop (place.0 + 1) bytes) (name, rest) place.2 in
+    let taken = cond_some (is_name (take place.0 bytes)) (take place.0 bytes, drop (place.0 + 1) bytes) (name, rest) place.2 in
     let front : take place.0 bytes ≡ name = ap (λ (p : List ℕ × List ℕ). p.0) taken.1 in
     let behind : drop (place.0 + 1) bytes ≡ rest = ap (λ (p : List ℕ × List ℕ). p.1) taken.1 in
     (cut_at bytes name rest place.0 end at.0 (eqb-true _ _ at.1) front behind, subst (λ (t : List ℕ). IsTrue (is_name t)) front taken.0)
@@ -89,12 +69,12 @@ other_byte end b other h =
 place_again : (end : ℕ) (name rest : List ℕ) → is_name_byte end ≡ false → list_all is_name_byte name ≡ true → position_or_len (λ b. eqb b end) (name ++ (end ∷ rest)) ≡ length name
 place_again end [] rest other h = rw (eq-eqb end end refl) refl
 place_again end (b ∷ bs) rest other h =
-    let parts = both (is_name_byte b) (list_all is_name_byte bs) h in
+    let parts = and_parts (is_name_byte b) (list_all is_name_byte bs) h in
     rw (other_byte end b other parts.0, place_again end bs rest other parts.1) (omega arith)
 
 name_bytes : (name : List ℕ) → IsTrue (is_name name) → list_all is_name_byte name ≡ true
 unfolding is_name
-name_bytes name h = (both _ (list_all is_name_byte name) h).1
+name_bytes name h = (and_parts _ (list_all is_name_byte name) h).1
 
 pub name_again : (end : ℕ) (name rest : List ℕ) → is_name_byte end ≡ false → IsTrue (is_name name) → name_before end (name ++ (end ∷ rest)) ≡ Some (name, rest)
 unfolding name_before
@@ -108,8 +88,8 @@ name_again end name rest other h =
 digit_takes : (b digit : ℕ) → digit_of b ≡ Some digit → (b ≡ 48 + digit) × (digit < 10)
 unfolding digit_of
 digit_takes b digit e =
-    let passed = guard (leb 48 b && leb b 57) (b - 48) digit e in
-    let within = both (leb 48 b) (leb b 57) passed.0 in
+    let passed = cond_some (leb 48 b && leb b 57) (b - 48) digit e in
+    let within = and_parts (leb 48 b) (leb b 57) passed.0 in
     let low : 48 ≤ b = leb-true 48 b within.0 in
     let high : b ≤ 57 = leb-true b 57 within.1 in
     (omega (arith, passed.1), omega (arith, passed.1))
@@ -165,7 +145,7 @@ number_takes (b ∷ bs) n rest e =
     let first = bind_some (digit_of b) (λ digit. Some (number_from digit bs)) (n, rest) e in
     let byte = digit_takes b first.0 first.1 in
     let P : ℕ → Type 0 = λ v. IsRead (v ∷ bs) n rest in
-    subst P (sym byte.0) (from_takes first.0 n bs rest byte.1 (some-is _ _ first.2))
+    subst P (sym byte.0) (from_takes first.0 n bs rest byte.1 (same_Some _ _ first.2))
 
 from_stops : (n end : ℕ) (rest : List ℕ) → digit_of end ≡ None → number_from n (end ∷ rest) ≡ (n, end ∷ rest)
 unfolding number_from

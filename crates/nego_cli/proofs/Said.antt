@@ -1,5 +1,6 @@
 -- What was found and put out is what the status says, and no other status could be.
 use Rattle.std.proofs.Common.{◌≡◌, ◌≢◌, ◌⊎◌, ℕ, List, [], refl, sym, ap, subst, ◌∙◌, inl, inr}
+use Rattle.std.proofs.lemmas.Option.{same_Some}
 use Rattle.nego_io.specs.Outside.{WhereTold}
 use Rattle.nego_io.specs.Part.{Whole, reading}
 use Rattle.nego_cli.specs.declared.answer.Answer.{Answer}
@@ -14,7 +15,6 @@ use Rattle.nego_cli.specs.Texts.{reduction_text, usage_line, read_fault_line, me
 use Rattle.nego_cli.specs.Reading.{form_at}
 use Rattle.nego_cli.specs.Answer.{Change, Failed, Put, PutFront, Reply, Reduced, BadWords, Refuses, ReadFails, MemoryFails, Causes, reduce_words, status_of, IsReason, IsFault, Says, OutFails, ErrFails}
 use Rattle.nego_cli.specs.Handed.{IsFound, LinePut, IsDelivered}
-use Rattle.nego_cli.proofs.Pieces.{some-is}
 use Rattle.nego_cli.proofs.Forms.{form_again}
 use Rattle.nego_cli.proofs.Found.{told_then}
 
@@ -115,7 +115,7 @@ exactly_told words source out err statuses.Memory (trouble, nothing, put) =
 
 -- the form of a text is one
 one_form : (form other : SmallForm) → IsSmall form → IsSmall other → small_text form ≡ small_text other → form ≡ other
-one_form form other small small' e = some-is form other (sym (form_again form small) ∙ (ap (λ (t : List ℕ). form_at t) e ∙ form_again other small'))
+one_form form other small small' e = same_Some form other (sym (form_again form small) ∙ (ap (λ (t : List ℕ). form_at t) e ∙ form_again other small'))
 
 one_reading : (form other : SmallForm) (input left left' : List ℕ) → IsSmall form → IsSmall other → reading PART_LIMIT input ≡ Whole (small_text form) left → reading PART_LIMIT input ≡ Whole (small_text other) left' → form ≡ other
 one_reading form other input left left' small small' e f =

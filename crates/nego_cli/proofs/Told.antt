@@ -1,9 +1,9 @@
 -- The diagram of a small form is a diagram, and the summary tells it.
 use Rattle.std.proofs.Common.{ℕ, ◌<◌, List, [], ◌∷◌, Option, Some, None, refl}
 use Rattle.std.specs.Prelude.{IfSome}
-use Rattle.nego_model.specs.declared.cases.Case.{Case}
-use Rattle.nego_model.specs.declared.cases.Term.TheVariants as terms
-use Rattle.nego_model.specs.Cases.{rows_of}
+use Rattle.nego_data.specs.declared.cases.Case.{Case}
+use Rattle.nego_data.specs.declared.cases.Term.TheVariants as terms
+use Rattle.nego_data.specs.Cases.{rows_of}
 use Rattle.nego_model.specs.Diagram.{IsDiagram}
 use Rattle.nego_model.specs.Summary.{Tells}
 use Rattle.nego_model.proofs.OneAtom.{one_base_tells}

@@ -1,14 +1,13 @@
 -- Reading the small form from left to right: what each piece gives, and the bytes behind it.
 use Rattle.std.specs.Prelude.{ℕ, ◌+◌, ◌-◌, ◌*◌, Bool, true, ◌&&◌, ◌==◌, nat_lt, nat_le, if◌then◌else◌, List, [], ◌∷◌, length, take, drop, position, Option, Some, None, codes}
-use Rattle.std.specs.Option.{option_map_or}
+use Rattle.std.specs.Option.{option_and_then, option_map_or}
 use Rattle.std.specs.Str.{bytes_eq}
 use Rattle.nego_base.specs.Name.{is_name}
 use Rattle.nego_cli.specs.Small.{SmallForm}
 
 infixl 10 ◌>>=◌
 abbrev pub ◌>>=◌ : {A B : Type 0} → Option A → (A → Option B) → Option B
-None >>= f = None
-(Some x) >>= f = f x
+o >>= f = option_and_then f o
 
 -- the bytes behind this text
 unfoldable pub behind_text : List ℕ → List ℕ → Option (List ℕ)
