@@ -1,6 +1,6 @@
 -- The small form: the printed form of a diagram of one agent, one atom and one outcome, whose one case demands
 -- nothing and assigns nothing or a number. It is what `reduce` takes today.
-use Rattle.std.specs.Prelude.{◌≡◌, ℕ, ◌<◌, ◌≤◌, List, [], ◌∷◌, ◌++◌, Option, Some, None, IfSome, IsTrue, codes, decimal}
+use Rattle.std.specs.Prelude.{ℕ, ◌<◌, ◌≤◌, List, [], ◌∷◌, ◌++◌, Option, Some, None, IfSome, IsTrue, codes, decimal}
 use Rattle.nego_base.specs.declared.ids.AgentId.{AgentId}
 use Rattle.nego_base.specs.Name.{is_name}
 use Rattle.nego_data.specs.declared.cases.Case.{Case}

@@ -1,6 +1,6 @@
 //! The top call.
 
-ghost use Rattle.std.specs.Prelude.{◌≡◌, ◌≢◌, ◌⊎◌, ℕ, ◌≤◌, ¬◌, List};
+ghost use Rattle.std.specs.Prelude.{◌≡◌, ◌≢◌, ◌⊎◌, ℕ, ◌≤◌, List};
 ghost use Rattle.nego_io.specs.Outside.{Rose, WhereTold};
 ghost use Rattle.nego_io.specs.Part.{Whole, reading};
 ghost use Rattle.nego_cli.specs.Small.{SmallForm, IsSmall, small_text, summary_of};
@@ -8,6 +8,8 @@ ghost use Rattle.nego_cli.specs.Texts.{reduction_text};
 ghost use Rattle.nego_cli.specs.Answer.{Reply, Reduced, Causes, Failed, Says, IsFault, Put, change, reduce_words, status_of};
 
 use crate::Status;
+use crate::answer::find_answer;
+use crate::deliver::deliver;
 use nego_base::Text;
 use nego_io::{Sink, Source};
 use std::alloc::Global;
@@ -42,5 +44,6 @@ pub fn nego<S: Source, O: Sink, E: Sink>(
     ensures out_faults { O.faults out.old ≤ O.faults out.new }
     ensures err_faults { E.faults err.old ≤ E.faults err.new }
 {
-    Status::Memory
+    let answer = find_answer(alloc, words, source);
+    deliver(&answer, out, err)
 }

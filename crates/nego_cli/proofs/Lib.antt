@@ -1,0 +1,6 @@
+pub mod Pieces
+pub mod Forms
+pub mod Told
+pub mod Printed
+pub mod Found
+pub mod Said
