@@ -8,7 +8,7 @@ use Rattle.nego_model.specs.Joining.{By, Runs}
 use Rattle.nego_model.specs.Expression.{Means}
 use Rattle.nego_model.specs.Diagram.{PlainDiagram, negotiation_of, relation_of}
 use Rattle.nego_model.specs.Summary.{final_outcomes}
-use Rattle.nego_model.proofs.Members.{All-from_members}
+use Rattle.nego_base.proofs.Members.{All-members}
 use Rattle.nego_expr.specs.Work.{WorkOutcome, PlainWork, IsWork, negotiation_of_work, work_outcomes, outcome_at, ByWork}
 use Rattle.nego_expr.specs.Use.{outcomes_at}
 use Rattle.nego_expr.specs.Fresh.{Stands}
@@ -65,7 +65,7 @@ module _ (diagram : PlainDiagram) (work : PlainWork) (ok : IsWork work) (one : l
 
   -- an outcome that stands at a place of the diagram's final outcomes
   final_in : (k : ℕ) → k < length (final_outcomes diagram) → IsTrue (is_in (slice_index (final_outcomes diagram) k) (final_outcomes diagram))
-  final_in k h = All-from_members (λ f. IsTrue (is_in f (final_outcomes diagram))) (final_outcomes diagram) (λ f m. m) k 0 h
+  final_in k h = All-members (λ f. IsTrue (is_in f (final_outcomes diagram))) (final_outcomes diagram) (λ f m. m) k 0 h
 
   each : (k d e : ℕ) → k < length (final_outcomes diagram) →
       Means (By (relation_of diagram)) work.nodes (slice_index (map (λ final. final.node) (summary_of_work work).finals) k) d e

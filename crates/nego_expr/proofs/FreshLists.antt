@@ -5,10 +5,9 @@ use Rattle.std.proofs.lemmas.Option.{none-some, same_Some}
 use Rattle.std.proofs.lemmas.List.Elements.{All-nil, All-cons}
 use Rattle.std.specs.List.{All, range_with_len}
 use Rattle.std.specs.Option.{option_map_or, option_to_list}
-use Rattle.nego_base.specs.Members.{is_in, RisesFrom}
-use Rattle.nego_model.specs.Negotiation.{IsRising}
+use Rattle.nego_base.specs.Members.{is_in, IsRising, RisesFrom}
 use Rattle.nego_model.specs.Diagram.{PlainAtom, PlainOutcome, PlainDiagram, outcomes_from, nexts_of}
-use Rattle.nego_model.proofs.Members.{is_in_first, is_in_later}
+use Rattle.nego_base.proofs.Members.{is_in-head, is_in-tail}
 use Rattle.nego_expr.specs.Work.{WorkOutcome, parties_among, outcome_among}
 use Rattle.nego_expr.specs.Fresh.{atoms_from, outcomes_of}
 
@@ -22,8 +21,8 @@ pub one_at_most : (xs : List ℕ) → IsRising xs → ((m p : ℕ) → IsTrue (i
 one_at_most [] h same = refl
 one_at_most (x ∷ []) h same = refl
 one_at_most (x ∷ y ∷ ys) h same =
-    let below : x < y = h.0 in
-    let e : x ≡ y = same x y (is_in_first x (y ∷ ys)) (is_in_later y x (y ∷ ys) (is_in_first y ys)) in
+    let below : x + 1 ≤ y = h.1.0 in
+    let e : x ≡ y = same x y (is_in-head x (y ∷ ys)) (is_in-tail y x (y ∷ ys) (is_in-head y ys)) in
     absurd (let no_more : ⊥ = omega (arith, below, e) in no_more)
 
 -- ---- atoms
@@ -59,12 +58,12 @@ is_in_outcomes_from n [] k x h = absurd (none-some x h)
 is_in_outcomes_from n (y ∷ ys) zero x h =
     subst (λ o. IsTrue (is_in o (outcomes_from n (y ∷ ys) x.atom))) (let e : n ≡ n + 0 = omega arith in e)
     (subst (λ os. IsTrue (is_in n os)) (sym (cond-true (y.atom == x.atom) (n ∷ outcomes_from (n + 1) ys x.atom) (outcomes_from (n + 1) ys x.atom) (eq-eqb y.atom x.atom (ap (λ z. z.atom) (same_Some y x h)))))
-    (is_in_first n (outcomes_from (n + 1) ys x.atom)))
+    (is_in-head n (outcomes_from (n + 1) ys x.atom)))
 is_in_outcomes_from n (y ∷ ys) (suc k) x h =
     go (y.atom == x.atom) (subst (λ o. IsTrue (is_in o (outcomes_from (n + 1) ys x.atom))) (let e : n + 1 + k ≡ n + suc k = omega arith in e) (is_in_outcomes_from (n + 1) ys k x h))
   where
     go : (b : Bool) → IsTrue (is_in (n + suc k) (outcomes_from (n + 1) ys x.atom)) → IsTrue (is_in (n + suc k) (cond b (n ∷ outcomes_from (n + 1) ys x.atom) (outcomes_from (n + 1) ys x.atom)))
-    go true m = is_in_later (n + suc k) n (outcomes_from (n + 1) ys x.atom) m
+    go true m = is_in-tail (n + suc k) n (outcomes_from (n + 1) ys x.atom) m
     go false m = m
 
 module _ (diagram : PlainDiagram) where

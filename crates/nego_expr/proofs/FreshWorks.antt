@@ -1,5 +1,5 @@
 -- The fresh work of a deterministic diagram is a work, and stands for the diagram.
-use Rattle.std.proofs.Common.{◌≡◌, ◌↔◌, ⊎_elim, ℕ, ◌+◌, ◌<◌, ◌≤◌, false, [], length, map, slice_get, slice_index_or, Option, Some, None, option_map, IsTrue, refl, sym, subst, ap, ◌∙◌, arith}
+use Rattle.std.proofs.Common.{◌≡◌, ◌↔◌, ⊎_elim, ℕ, ◌+◌, ◌<◌, ◌≤◌, false, [], length, map, slice_get, slice_index_or, Option, Some, None, option_map, IsTrue, refl, sym, subst, ap, ◌∙◌, arith, lt-ltb}
 use Rattle.std.proofs.Math.Path.{fun_ext}
 use Rattle.std.proofs.lemmas.Bool.{cases_lt, true≢false}
 use Rattle.std.proofs.lemmas.Option.{slice_get_within, get_or_from_slice_get}
@@ -15,7 +15,7 @@ use Rattle.nego_model.specs.Joining.{Relation, By, Runs}
 use Rattle.nego_model.specs.Expression.{EachBase}
 use Rattle.nego_model.specs.Diagram.{PlainOutcome, PlainDiagram, negotiation_of, relation_of, parties_of, nexts_of, outcome_name, IsDiagram}
 use Rattle.nego_model.specs.Summary.{final_outcomes}
-use Rattle.nego_model.proofs.Rising.{is_in_range}
+use Rattle.nego_base.proofs.Members.{is_in-range_zero}
 use Rattle.nego_model.proofs.Joined.{Joins-wider}
 use Rattle.nego_expr.specs.Work.{WorkOutcome, IsWork, outcome_at, sent_to, work_parties, work_outcomes, negotiation_of_work, ByWork}
 use Rattle.nego_expr.specs.Fresh.{atoms_from, outcomes_of, fresh_work, Stands, FreshWorksStand}
@@ -49,7 +49,7 @@ fresh_outcomes diagram n = outcomes_of-at_atom diagram 0 diagram.outcomes n
 -- an outcome of a diagram is one of its atom
 pub diagram_outcome : (diagram : PlainDiagram) → IsDiagram diagram → (o : ℕ) (x : PlainOutcome) → slice_get diagram.outcomes o ≡ Some x → IsOutcome (negotiation_of diagram) x.atom o
 diagram_outcome diagram ok o x h = (
-  is_in_range 0 (length diagram.atoms) x.atom (omega arith) (let k : x.atom < length diagram.atoms = below in omega (arith, k)),
+  is_in-range_zero x.atom (length diagram.atoms) ∙ lt-ltb x.atom (length diagram.atoms) below,
   subst (λ p. IsTrue (is_in p ((negotiation_of diagram).outcomes x.atom))) (let e : 0 + o ≡ o = omega arith in e) (is_in_outcomes_from 0 diagram.outcomes o x h),
 )
   where

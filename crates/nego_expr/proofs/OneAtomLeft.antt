@@ -7,7 +7,7 @@ use Rattle.nego_model.specs.Negotiation.{Negotiation, IsNegotiation}
 use Rattle.nego_model.specs.Occurring.{PlainMarking, Occurrence, enables, after, leaves, opening_marking, final_marking, IsComplete, IsSound}
 use Rattle.nego_model.specs.Joining.{Relation, EndsWith, Joins, Runs}
 use Rattle.nego_model.specs.Reaching.{all_at_last}
-use Rattle.nego_model.proofs.Members.{is_in_none, is_in_single, some_member}
+use Rattle.nego_base.proofs.Members.{is_in_none, is_in_single, some_member}
 use Rattle.nego_model.proofs.Markings.{enables-atom, enables-party, ready-replicate}
 use Rattle.nego_model.proofs.Steps.{after-some, after-outcome, leaves-first, leaves_one, run_leaves}
 use Rattle.nego_model.proofs.Joined.{Joins_one, related_from_one}
