@@ -1,10 +1,11 @@
 -- Laws on lists of numbers as sets.
-use Rattle.std.proofs.Common.{Some, add-one, add-zero, ◌≡◌, ◌≢◌, ℕ, zero, suc, ◌+◌, ◌<◌, ◌≤◌, Bool, true, false, not, cond, ◌&&◌, ◌||◌, eqb, ltb, List, [], ◌∷◌, ◌++◌, length, ◌⊎◌, inl, inr, refl, sym, ap, subst, ◌∙◌, arith}
-use Rattle.std.specs.Prelude.{All, slice_get}
+use Rattle.std.specs.List.Sorted.{IsStrictlyIncreasing}
+use Rattle.std.proofs.Common.{get_or, Some, add-one, add-zero, ◌≡◌, ◌≢◌, ℕ, zero, suc, ◌+◌, ◌<◌, ◌≤◌, Bool, true, false, not, cond, ◌&&◌, ◌||◌, eqb, ltb, List, [], ◌∷◌, ◌++◌, length, ◌⊎◌, inl, inr, refl, sym, ap, subst, ◌∙◌, arith}
+use Rattle.std.specs.Prelude.{All, slice_get, Contains}
 use Rattle.std.specs.List.{list_all, filter, range_with_len}
 use Rattle.std.proofs.lemmas.Bool.{or_left, or_right, both_ways, false_from_ne_true, or_parts, or_cases, and_parts, and_from, eqb-true, eq-eqb, ne_eqb, cases_eq, cases_lt, cases_order, false≢true, true≢false}
 use Rattle.std.proofs.lemmas.Bool.Decides.{nat_tests}
-use Rattle.std.proofs.lemmas.List.Elements.{All-nil, All-cons, All-head, All-tail, All-filter}
+use Rattle.std.proofs.lemmas.List.Elements.{All-nil, All-cons, All-head, All-tail, All-filter, All-contains, All-contains_itself}
 use Rattle.nego_base.specs.Members.{is_in, all_in, any_in, with_member, without_member, RisesFrom, IsRising, IsRisingBelow}
 use Rattle.nego_base.proofs.Tests.{same_tests}
 
@@ -410,3 +411,51 @@ first_and_rest width x (y ∷ ys) s e = at_head (same_item e)
     at_head q =
         let P : ℕ → Type 0 = λ z. y ∷ ys ≡ z ∷ without_member z (y ∷ ys) in
         subst P q (ap (λ zs. y ∷ zs) (sym (without-head y ys s.rising.1)))
+
+-- ---- in std's words
+
+pub Contains-member : (x : ℕ) (xs : List ℕ) → is_in x xs ≡ true → Contains xs x
+Contains-member x xs h = All-member (Contains xs) x xs (All-contains_itself xs) h
+
+pub member-Contains : (x : ℕ) (xs : List ℕ) → Contains xs x → is_in x xs ≡ true
+member-Contains x xs c = All-contains (λ y. is_in y xs ≡ true) xs x (All-members (λ y. is_in y xs ≡ true) xs (λ y m. m)) c
+
+pub increasing_from_rising : (low : ℕ) (xs : List ℕ) → RisesFrom low xs → IsStrictlyIncreasing xs
+increasing_from_rising low xs r k h = steps low xs k r h
+  where
+    steps : (low : ℕ) (xs : List ℕ) (k : ℕ) → RisesFrom low xs → k + 1 < length xs → get_or xs k 0 < get_or xs (k + 1) 0
+    steps low [] k r h = absurd (omega arith)
+    steps low (x ∷ []) k r h = absurd (omega arith)
+    steps low (x ∷ y ∷ ys) zero r h = omega (arith, r.1.0)
+    steps low (x ∷ y ∷ ys) (suc k) r h =
+        let P : ℕ → Type 0 = λ n. get_or (y ∷ ys) k 0 < get_or (x ∷ y ∷ ys) n 0 in
+        let e : suc (k + 1) ≡ suc k + 1 = omega arith in
+        subst P e (steps (x + 1) (y ∷ ys) k r.1 (omega arith))
+
+pub rising_from_increasing : (xs : List ℕ) → IsStrictlyIncreasing xs → IsRising xs
+rising_from_increasing [] h = tt
+rising_from_increasing (x ∷ xs) h = (omega arith, rest x xs h)
+  where
+    rest : (x : ℕ) (xs : List ℕ) → IsStrictlyIncreasing (x ∷ xs) → RisesFrom (x + 1) xs
+    rest x [] h = tt
+    rest x (y ∷ ys) h =
+        let here : x < y = h 0 (omega arith) in
+        (omega arith, rest y ys (λ k q. next k q))
+      where
+        next : (k : ℕ) → k + 1 < length (y ∷ ys) → get_or (y ∷ ys) k 0 < get_or (y ∷ ys) (k + 1) 0
+        next k q =
+            let P : ℕ → Type 0 = λ n. get_or (x ∷ y ∷ ys) n 0 < get_or (x ∷ y ∷ ys) (n + 1) 0 in
+            let Q : ℕ → Type 0 = λ n. get_or (y ∷ ys) k 0 < get_or (x ∷ y ∷ ys) n 0 in
+            let e : suc k + 1 ≡ suc (k + 1) = omega arith in
+            subst Q e (h (suc k) (omega arith))
+
+-- a list whose numbers are all below those of a rising list, before it
+pub rises-append : (low high : ℕ) (xs ys : List ℕ) → low ≤ high → RisesFrom low xs → All (λ x. x < high) xs → RisesFrom high ys → RisesFrom low (xs ++ ys)
+rises-append low high [] ys h r a s = rises_more low high ys h s
+rises-append low high (x ∷ xs) ys h r a s =
+    let here : x < high = All-head (λ z. z < high) x xs a in
+    (r.0, rises-append (x + 1) high xs ys (omega arith) r.1 (All-tail (λ z. z < high) x xs a) s)
+
+-- a number above all others at the end
+pub rises-push : (low x : ℕ) (xs : List ℕ) → low ≤ x → RisesFrom low xs → All (λ y. y < x) xs → RisesFrom low (xs ++ x ∷ [])
+rises-push low x xs h r a = rises-append low x xs (x ∷ []) h r a (omega arith, tt)

@@ -1,4 +1,4 @@
-ghost use Rattle.std.specs.Prelude.{◌≡◌, ◌==◌, ◌+◌, ◌-◌, ◌<◌, ◌≤◌, ◌↔◌, [], ◌∷◌, ◌++◌, length, take, OnOk, OnErr, IfOk, IsSome, slice_get, slice_set, insert, remove, swap};
+ghost use Rattle.std.specs.Prelude.{◌≡◌, ◌==◌, ◌+◌, ◌-◌, ◌<◌, ◌≤◌, ◌↔◌, [], ◌∷◌, ◌++◌, length, take, OnOk, OnErr, IfOk, IsOk, IsSome, slice_get, slice_set, insert, remove, swap};
 ghost use Rattle.std.specs.List.Sorted.{IsPermutation, IsSorted, IsStable, IsSortedByKeyClosure, IsStableByKeyClosure};
 ghost use Rattle.std.specs.Option.{option_copied, option_to_list};
 
@@ -182,9 +182,20 @@ impl<T> Seq<T> {
         ensures sorted { OnOk result (IsSortedByKeyClosure F.FnMut K.cmp key self.new) }
         ensures stable { IsStableByKeyClosure F.FnMut K.cmp key self.old self.new }
         ensures err { OnErr result (self.new ≡ self.old) }
+        // A short list is sorted without memory.
+        ensures short { length self.old ≤ 20 → IsOk result }
     {
         self.items.sort_by_key(key)?;
         Ok(())
+    }
+
+    /// Puts the items in the order of their keys, without memory; items of equal keys may change places.
+    pub fn sort_unstable_by_key<K: Ord + Drop, F: FnMut(&T) -> K>(&mut self, key: F)
+        requires { F.IsAlwaysCallable key }
+        ensures items { IsPermutation self.old self.new }
+        ensures sorted { IsSortedByKeyClosure F.FnMut K.cmp key self.new }
+    {
+        self.items.sort_unstable_by_key(key);
     }
 
     /// Moves the items of the other list to the end. On refusal both are as before.
@@ -234,8 +245,17 @@ impl<T: Ord> Seq<T> {
         ensures sorted { OnOk result (IsSorted T.cmp self.new) }
         ensures stable { IsStable T.cmp self.old self.new }
         ensures err { OnErr result (self.new ≡ self.old) }
+        // A short list is sorted without memory.
+        ensures short { length self.old ≤ 20 → IsOk result }
     {
         self.items.sort()?;
         Ok(())
+    }
+    /// Puts the items in order, without memory; equal ones may change places.
+    pub fn sort_unstable(&mut self)
+        ensures items { IsPermutation self.old self.new }
+        ensures sorted { IsSorted T.cmp self.new }
+    {
+        self.items.sort_unstable();
     }
 }

@@ -37,7 +37,10 @@ fn lists(rt: &impl Abort, alloc: Global) -> Result<(), Fail> {
     let mut more = Seq::copy_of(alloc, &[9])?;
     list.append(&mut more)?;
     assert!(rt; more.is_empty());
-    assert_eq!(rt; Seq::from_vec(list.into_vec()), Seq::copy_of(alloc, &[3, 1, 2, 7, 8, 9])?);
+    assert_eq!(rt;
+        Seq::from_vec(list.into_vec()),
+        Seq::copy_of(alloc, &[3, 1, 2, 7, 8, 9])?
+    );
     let text = Text::copy(alloc, b"end")?;
     assert_eq!(rt; text.as_slice(), b"end".as_slice());
     Ok(())
@@ -69,9 +72,20 @@ fn order(rt: &impl Abort, alloc: Global) -> Result<(), Fail> {
     let mut list = Seq::copy_of(alloc, &[3u8, 1, 2])?;
     list.sort()?;
     assert_eq!(rt; list.as_slice(), [1, 2, 3].as_slice());
+    list.set(0, 9);
+    list.sort_unstable();
+    assert_eq!(rt; list.as_slice(), [2, 3, 9].as_slice());
     let mut pairs = Seq::copy_of(alloc, &[(2u8, 0u8), (1, 1), (2, 2), (1, 3)])?;
     pairs.sort_by_key(|pair| pair.0)?;
-    assert_eq!(rt; pairs.as_slice(), [(1, 1), (1, 3), (2, 0), (2, 2)].as_slice());
+    assert_eq!(rt;
+        pairs.as_slice(),
+        [(1, 1), (1, 3), (2, 0), (2, 2)].as_slice()
+    );
+    pairs.sort_unstable_by_key(|pair| pair.1);
+    assert_eq!(rt;
+        pairs.as_slice(),
+        [(2, 0), (1, 1), (2, 2), (1, 3)].as_slice()
+    );
     Ok(())
 }
 
@@ -82,7 +96,10 @@ fn room(rt: &impl Abort, alloc: Global) -> Result<(), Fail> {
     list.set(0, 7);
     assert_eq!(rt; (list.len(), list.room()), (3, 1));
     list.truncate(2);
-    assert_eq!(rt; (list.as_slice(), list.room(), list.is_empty()), ([7, 2].as_slice(), 2, false));
+    assert_eq!(rt;
+        (list.as_slice(), list.room(), list.is_empty()),
+        ([7, 2].as_slice(), 2, false)
+    );
     let mut list = Reserved::of(list.into_seq(), 1)?;
     list.push(5);
     assert_eq!(rt; list.as_slice(), [7, 2, 5].as_slice());
@@ -90,7 +107,10 @@ fn room(rt: &impl Abort, alloc: Global) -> Result<(), Fail> {
 }
 
 fn agents(rt: &impl Abort) {
-    let set = AgentSet::none().with(AgentId(15)).with(AgentId(4)).with(AgentId(0));
+    let set = AgentSet::none()
+        .with(AgentId(15))
+        .with(AgentId(4))
+        .with(AgentId(0));
     assert!(rt; set.has(AgentId(4)) && !set.has(AgentId(5)));
     assert_eq!(rt; (set.count(), set.least()), (3, Some(AgentId(0))));
     let rest = set.without(AgentId(0));
@@ -101,7 +121,10 @@ fn agents(rt: &impl Abort) {
 }
 
 fn atoms(rt: &impl Abort) {
-    let set = AtomSet::none().with(AtomId(63)).with(AtomId(31)).with(AtomId(32));
+    let set = AtomSet::none()
+        .with(AtomId(63))
+        .with(AtomId(31))
+        .with(AtomId(32));
     assert!(rt; set.has(AtomId(63)) && !set.has(AtomId(0)));
     assert_eq!(rt; (set.count(), set.least()), (3, Some(AtomId(31))));
     let rest = set.without(AtomId(31));
