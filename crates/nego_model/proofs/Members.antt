@@ -2,7 +2,7 @@
 use Rattle.std.proofs.Common.{◌≡◌, ◌≢◌, ◌⊎◌, inl, inr, ⊎_elim, ℕ, Bool, ◌==◌, List, [], ◌∷◌, IsTrue, refl, sym, subst, eq-eqb, eqb-true}
 use Rattle.std.proofs.lemmas.Bool.{or_cases, or_left, or_right, and_parts, and_from, true≢false}
 use Rattle.std.proofs.lemmas.List.Elements.{All-nil, All-cons, All-head, All-tail}
-use Rattle.std.specs.List.{All, list_all}
+use Rattle.std.specs.List.{All, list_all, list_any}
 use Rattle.nego_base.specs.Members.{is_in}
 
 -- the first item is in the list
@@ -54,3 +54,25 @@ All-member P (y ∷ ys) x h k =
 pub All-from_members : (P : ℕ → Type 0) (xs : List ℕ) → ((x : ℕ) → IsTrue (is_in x xs) → P x) → All P xs
 All-from_members P [] h = All-nil P
 All-from_members P (x ∷ xs) h = All-cons P x xs (h x (is_in_first x xs)) (All-from_members P xs (λ y k. h y (is_in_later y x xs k)))
+
+-- an item that passes a test which some item passes, with what holds of each
+pub passing_item : {X : Type 0} (test : X → Bool) (P : X → Type 0) (xs : List X) → IsTrue (list_any test xs) → All P xs → (x : X) × IsTrue (test x) × P x
+passing_item test P [] h k = absurd (true≢false (sym h))
+passing_item test P (x ∷ xs) h k =
+    ⊎_elim (λ e. (x, e, All-head P x xs k)) (λ m. passing_item test P xs m (All-tail P x xs k)) (or_cases (test x) (list_any test xs) h)
+
+-- some item passes a test where some item passes a stricter one
+pub any_passes : {X : Type 0} (strict test : X → Bool) (xs : List X) → IsTrue (list_any strict xs) → All (λ x. IsTrue (strict x) → IsTrue (test x)) xs → IsTrue (list_any test xs)
+any_passes strict test [] h k = h
+any_passes strict test (x ∷ xs) h k =
+    ⊎_elim (λ e. or_left (test x) (list_any test xs) (All-head (λ y. IsTrue (strict y) → IsTrue (test y)) x xs k e))
+    (λ m. or_right (test x) (list_any test xs) (any_passes strict test xs m (All-tail (λ y. IsTrue (strict y) → IsTrue (test y)) x xs k)))
+    (or_cases (strict x) (list_any strict xs) h)
+
+-- each item passes a test where each passes a stricter one
+pub all_pass : {X : Type 0} (strict test : X → Bool) (xs : List X) → IsTrue (list_all strict xs) → All (λ x. IsTrue (strict x) → IsTrue (test x)) xs → IsTrue (list_all test xs)
+all_pass strict test [] h k = h
+all_pass strict test (x ∷ xs) h k =
+    let p = and_parts (strict x) (list_all strict xs) h in
+    and_from (test x) (list_all test xs) (All-head (λ y. IsTrue (strict y) → IsTrue (test y)) x xs k p.0)
+    (all_pass strict test xs p.1 (All-tail (λ y. IsTrue (strict y) → IsTrue (test y)) x xs k))

@@ -2,7 +2,9 @@ pub mod Negotiation
 pub mod Occurring
 pub mod Data
 pub mod Cases
+pub mod CaseForm
 pub mod Joining
+pub mod Reaching
 pub mod Locality
 pub mod Expression
 pub mod Diagram

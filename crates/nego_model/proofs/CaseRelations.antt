@@ -1,0 +1,276 @@
+-- Laws of the relations of cases: what they read and change, and where they are total.
+use Rattle.std.proofs.Common.{◌≡◌, ⊎_elim, ℕ, zero, suc, ◌+◌, ◌-◌, ◌<◌, ◌≤◌, min, Bool, true, false, cond, ◌&&◌, ◌==◌, nat_lt, List, [], ◌∷◌, length, slice_index, slice_index_or, Option, Some, None, IsTrue, refl, sym, subst, ap, ap₂, ◌∙◌, arith, eqb-true, eq-eqb, lt-ltb, le_of_suc-le-suc, suc-le-suc}
+use Rattle.std.proofs.lemmas.Bool.{and_parts, and_from, or_cases, or_left, or_right, cases_lt, cases_Bool, true≢false}
+use Rattle.std.proofs.lemmas.Option.{none-some, same_Some}
+use Rattle.std.proofs.lemmas.List.{get_or_past}
+use Rattle.std.proofs.lemmas.List.Elements.{All-head, All-tail, All-weaker}
+use Rattle.std.specs.List.{All, list_any}
+use Rattle.std.specs.Bool.{⊤}
+use Rattle.nego_base.specs.Members.{is_in}
+use Rattle.nego_model.specs.declared.cases.Operand.{Operand}
+use Rattle.nego_model.specs.declared.cases.Operand.TheVariants as operands
+use Rattle.nego_model.specs.declared.cases.Term.{Term}
+use Rattle.nego_model.specs.declared.cases.Term.TheVariants as terms
+use Rattle.nego_model.specs.declared.cases.Test.{Test}
+use Rattle.nego_model.specs.declared.cases.Set.{Set}
+use Rattle.nego_model.specs.declared.cases.Case.{Case}
+use Rattle.nego_model.specs.Data.{data_count, split, joint}
+use Rattle.nego_model.specs.Cases.{compares, operand_value, test_holds, gives, term_for, covers, agent_follows, agents_follow, case_relates, relates}
+use Rattle.nego_model.specs.CaseForm.{operand_agents, term_agents, AreAmong, NamesOnly, FitsSize, AssignsBelow, IsCovered}
+use Rattle.nego_model.specs.Locality.{AgreeOn, ActsOn}
+use Rattle.nego_model.proofs.Members.{passing_item, any_passes, all_pass}
+use Rattle.nego_model.proofs.JointData.{length-split, split-below, AreValues, joint-below, split-joint}
+use Rattle.nego_model.proofs.Tables.{relates-on_data}
+
+-- each agent follows its assignment where all do
+pub agents_follow-at : (n : ℕ) (sizes : List ℕ) (sets : List Set) (old new : List ℕ) → IsTrue (agents_follow n sizes sets old new) → (a : ℕ) → a < length sizes →
+    IsTrue (agent_follows (term_for sets (n + a)) (slice_index sizes a) old (slice_index old (n + a)) (slice_index new (n + a)))
+agents_follow-at n [] sets old new h a k = absurd (let no_more : ⊥ = omega (arith, k) in no_more)
+agents_follow-at n (size ∷ sizes) sets old new h zero k =
+    let e : n ≡ n + 0 = omega arith in
+    subst (λ m. IsTrue (agent_follows (term_for sets m) size old (slice_index old m) (slice_index new m))) e
+    (and_parts (agent_follows (term_for sets n) size old (slice_index old n) (slice_index new n)) (agents_follow (n + 1) sizes sets old new) h).0
+agents_follow-at n (size ∷ sizes) sets old new h (suc a) k =
+    let e : n + 1 + a ≡ n + suc a = omega arith in
+    subst (λ m. IsTrue (agent_follows (term_for sets m) (slice_index sizes a) old (slice_index old m) (slice_index new m))) e
+    (agents_follow-at (n + 1) sizes sets old new
+    (and_parts (agent_follows (term_for sets n) size old (slice_index old n) (slice_index new n)) (agents_follow (n + 1) sizes sets old new) h).1
+    a (le_of_suc-le-suc k))
+
+-- all agents follow their assignments where each does
+pub agents_follow_from : (n : ℕ) (sizes : List ℕ) (sets : List Set) (old new : List ℕ) →
+    ((a : ℕ) → a < length sizes → IsTrue (agent_follows (term_for sets (n + a)) (slice_index sizes a) old (slice_index old (n + a)) (slice_index new (n + a)))) →
+    IsTrue (agents_follow n sizes sets old new)
+agents_follow_from n [] sets old new h = refl
+agents_follow_from n (size ∷ sizes) sets old new h =
+    let first : n + 0 ≡ n = omega arith in
+    and_from (agent_follows (term_for sets n) size old (slice_index old n) (slice_index new n)) (agents_follow (n + 1) sizes sets old new)
+    (subst (λ m. IsTrue (agent_follows (term_for sets m) size old (slice_index old m) (slice_index new m))) first (h 0 (omega arith)))
+    (agents_follow_from (n + 1) sizes sets old new (λ a k.
+    let e : n + suc a ≡ n + 1 + a = omega arith in
+    subst (λ m. IsTrue (agent_follows (term_for sets m) (slice_index sizes a) old (slice_index old m) (slice_index new m))) e (h (suc a) (suc-le-suc k))))
+
+-- what is assigned to an agent is assigned by some assignment to it
+pub term_for-some : (P : Set → Type 0) (sets : List Set) (a : ℕ) (term : Term) → All P sets → term_for sets a ≡ Some term → (set : Set) × P set × (set.agent.0 ≡ a) × (set.term ≡ term)
+term_for-some P [] a term all e = absurd (none-some term e)
+term_for-some P (set ∷ sets) a term all e = go (set.agent.0 == a) refl e (term_for-some P sets a term (All-tail P set sets all))
+  where
+    go : (b : Bool) → (set.agent.0 == a) ≡ b → cond b (Some set.term) (term_for sets a) ≡ Some term →
+        (term_for sets a ≡ Some term → (set : Set) × P set × (set.agent.0 ≡ a) × (set.term ≡ term)) → (set : Set) × P set × (set.agent.0 ≡ a) × (set.term ≡ term)
+    go true k q more = (set, All-head P set sets all, eqb-true set.agent.0 a k, same_Some set.term term q)
+    go false k q more = more q
+
+-- Values of which these agents have the same.
+abbrev pub SameAt : List ℕ → List ℕ → List ℕ → Type 0
+SameAt agents one two = (a : ℕ) → IsTrue (is_in a agents) → slice_index one a ≡ slice_index two a
+
+-- joint data that agree on agents have the same values of these
+pub SameAt-from_agree : (sizes agents : List ℕ) (d e : ℕ) → AgreeOn sizes agents d e → SameAt agents (split sizes d) (split sizes e)
+SameAt-from_agree sizes agents d e h a k = ⊎_elim (λ l. h a l k) past (cases_lt a (length sizes))
+  where
+    past : length sizes ≤ a → slice_index (split sizes d) a ≡ slice_index (split sizes e) a
+    past l = get_or_past (split sizes d) a 0 (subst (λ n. n ≤ a) (sym (length-split sizes d)) l)
+        ∙ sym (get_or_past (split sizes e) a 0 (subst (λ n. n ≤ a) (sym (length-split sizes e)) l))
+
+-- a comparison holds of values where it holds of others that are the same at whom it names
+pub test_holds-same : (agents : List ℕ) (test : Test) (one two : List ℕ) → AreAmong agents (test.agent.0 ∷ operand_agents test.right) → SameAt agents one two → test_holds test one ≡ test_holds test two
+test_holds-same agents test one two named same =
+    ap₂ (compares test.op) (same test.agent.0 (All-head (λ a. IsTrue (is_in a agents)) test.agent.0 (operand_agents test.right) named))
+    (right test.right (All-tail (λ a. IsTrue (is_in a agents)) test.agent.0 (operand_agents test.right) named))
+  where
+    right : (operand : Operand) → AreAmong agents (operand_agents operand) → operand_value operand one ≡ operand_value operand two
+    right (operands.Number n) k = refl
+    right (operands.Value b) k = same b.0 (All-head (λ a. IsTrue (is_in a agents)) b.0 [] k)
+
+-- a term gives the same for values that are the same at whom it names
+pub gives-same : (agents : List ℕ) (term : Term) (size : ℕ) (one two : List ℕ) (value : ℕ) → AreAmong agents (term_agents term) → SameAt agents one two → gives term size one value ≡ gives term size two value
+gives-same agents terms.Any size one two value named same = refl
+gives-same agents (terms.Number n) size one two value named same = refl
+gives-same agents (terms.Plus b n) size one two value named same =
+    ap (λ x. value == min (x + n) (size - 1)) (same b.0 (All-head (λ a. IsTrue (is_in a agents)) b.0 [] named))
+gives-same agents (terms.Minus b n) size one two value named same =
+    ap (λ x. value == min (x - n) (size - 1)) (same b.0 (All-head (λ a. IsTrue (is_in a agents)) b.0 [] named))
+
+-- a case covers values where it covers others that are the same at whom it names
+pub covers-same : (agents : List ℕ) (case : Case) (one two : List ℕ) → NamesOnly agents case → SameAt agents one two → IsTrue (covers case one) → IsTrue (covers case two)
+covers-same agents case one two names same h =
+    all_pass (λ test. test_holds test one) (λ test. test_holds test two) case.tests h
+    (All-weaker (λ test. AreAmong agents (test.agent.0 ∷ operand_agents test.right)) (λ test. IsTrue (test_holds test one) → IsTrue (test_holds test two))
+    (λ test named k. sym (test_holds-same agents test one two named same) ∙ k) case.tests names.tests)
+
+-- who is not named is assigned nothing
+pub term_for-stranger : (agents : List ℕ) (case : Case) (a : ℕ) → NamesOnly agents case → ¬ IsTrue (is_in a agents) → term_for case.sets a ≡ None
+term_for-stranger agents case a names other = go (term_for case.sets a) refl
+  where
+    go : (o : Option Term) → term_for case.sets a ≡ o → o ≡ None
+    go None e = refl
+    go (Some term) e =
+        let h = term_for-some (λ set. AreAmong agents (set.agent.0 ∷ term_agents set.term)) case.sets a term names.sets e in
+        absurd (other (subst (λ b. IsTrue (is_in b agents)) h.2 (All-head (λ b. IsTrue (is_in b agents)) h.0.agent.0 (term_agents h.0.term) h.1)))
+
+-- who is not named keeps the value
+pub case_relates-changes : (sizes agents : List ℕ) (case : Case) (old new : List ℕ) → NamesOnly agents case → IsTrue (case_relates sizes case old new) →
+    (a : ℕ) → a < length sizes → ¬ IsTrue (is_in a agents) → slice_index old a ≡ slice_index new a
+case_relates-changes sizes agents case old new names h a k other =
+    let all = (and_parts (covers case old) (agents_follow 0 sizes case.sets old new) h).1 in
+    let e : 0 + a ≡ a = omega arith in
+    let here = subst (λ b. IsTrue (agent_follows (term_for case.sets b) (slice_index sizes a) old (slice_index old b) (slice_index new b))) e (agents_follow-at 0 sizes case.sets old new all a k) in
+    let kept = subst (λ o. IsTrue (agent_follows o (slice_index sizes a) old (slice_index old a) (slice_index new a))) (term_for-stranger agents case a names other) here in
+    sym (eqb-true (slice_index new a) (slice_index old a) kept)
+
+-- a case relates values where it relates others that are the same at whom it names, and all others keep theirs
+pub case_relates-reads : (sizes agents : List ℕ) (case : Case) (old new old' new' : List ℕ) → NamesOnly agents case → SameAt agents old old' → SameAt agents new new' →
+    ((a : ℕ) → a < length sizes → ¬ IsTrue (is_in a agents) → slice_index old' a ≡ slice_index new' a) → IsTrue (case_relates sizes case old new) → IsTrue (case_relates sizes case old' new')
+case_relates-reads sizes agents case old new old' new' names same same' off h =
+    and_from (covers case old') (agents_follow 0 sizes case.sets old' new') (covers-same agents case old old' names same parts.0) (agents_follow_from 0 sizes case.sets old' new' (λ a k. each (0 + a) a refl k (agents_follow-at 0 sizes case.sets old new parts.1 a k)))
+  where
+    parts : IsTrue (covers case old) × IsTrue (agents_follow 0 sizes case.sets old new)
+    parts = and_parts (covers case old) (agents_follow 0 sizes case.sets old new) h
+
+    each : (b a : ℕ) → b ≡ 0 + a → a < length sizes → IsTrue (agent_follows (term_for case.sets b) (slice_index sizes a) old (slice_index old b) (slice_index new b)) →
+        IsTrue (agent_follows (term_for case.sets b) (slice_index sizes a) old' (slice_index old' b) (slice_index new' b))
+    each b a e k q = go (term_for case.sets b) refl q
+      where
+        inside : b < length sizes
+        inside = omega (arith, e, k)
+
+        go : (o : Option Term) → term_for case.sets b ≡ o → IsTrue (agent_follows o (slice_index sizes a) old (slice_index old b) (slice_index new b)) → IsTrue (agent_follows o (slice_index sizes a) old' (slice_index old' b) (slice_index new' b))
+        go None t r = ⊎_elim
+            (λ party. eq-eqb (slice_index new' b) (slice_index old' b) (sym (same' b party) ∙ (eqb-true (slice_index new b) (slice_index old b) r ∙ same b party)))
+            (λ other. eq-eqb (slice_index new' b) (slice_index old' b) (sym (off b inside (λ party. true≢false (sym party ∙ other)))))
+            (cases_Bool (is_in b agents))
+        go (Some term) t r =
+            let s = term_for-some (λ set. AreAmong agents (set.agent.0 ∷ term_agents set.term)) case.sets b term names.sets t in
+            let party = subst (λ x. IsTrue (is_in x agents)) s.2 (All-head (λ x. IsTrue (is_in x agents)) s.0.agent.0 (term_agents s.0.term) s.1) in
+            let named = subst (λ x. AreAmong agents (term_agents x)) s.3 (All-tail (λ x. IsTrue (is_in x agents)) s.0.agent.0 (term_agents s.0.term) s.1) in
+            sym (gives-same agents term (slice_index sizes a) old old' (slice_index new' b) named same)
+            ∙ subst (λ v. IsTrue (gives term (slice_index sizes a) old v)) (same' b party) r
+
+-- cases that name some agents alone read and change the values of these alone
+pub relates-acts : (sizes agents : List ℕ) (cases : List Case) → All (NamesOnly agents) cases → ActsOn sizes agents (λ d e. IsTrue (relates sizes cases d e))
+relates-acts sizes agents cases names = record {
+  stays = λ d e h k. (relates-on_data sizes cases d e k).1;
+  changes = λ d e h k.
+      let c = passing_item (λ case. case_relates sizes case (split sizes d) (split sizes e)) (NamesOnly agents) cases (relates-on_data sizes cases d e k).2 names in
+      case_relates-changes sizes agents c.0 (split sizes d) (split sizes e) c.2 c.1;
+  reads = λ d e d' e' h k h' k' on on' off.
+      and_from (nat_lt d' (data_count sizes)) (nat_lt e' (data_count sizes) && list_any (λ case. case_relates sizes case (split sizes d') (split sizes e')) cases)
+      (lt-ltb d' (data_count sizes) h')
+      (and_from (nat_lt e' (data_count sizes)) (list_any (λ case. case_relates sizes case (split sizes d') (split sizes e')) cases)
+      (lt-ltb e' (data_count sizes) k')
+      (any_passes (λ case. case_relates sizes case (split sizes d) (split sizes e)) (λ case. case_relates sizes case (split sizes d') (split sizes e')) cases (relates-on_data sizes cases d e k).2
+      (All-weaker (NamesOnly agents) (λ case. IsTrue (case_relates sizes case (split sizes d) (split sizes e)) → IsTrue (case_relates sizes case (split sizes d') (split sizes e')))
+      (λ case n. case_relates-reads sizes agents case (split sizes d) (split sizes e) (split sizes d') (split sizes e') n (SameAt-from_agree sizes agents d d' on) (SameAt-from_agree sizes agents e e' on') off) cases names)));
+}
+
+-- a value that an agent of this size may have after its assignment
+abbrev given : Option Term → ℕ → List ℕ → ℕ → ℕ
+given None size old here = here
+given (Some terms.Any) size old here = 0
+given (Some (terms.Number n)) size old here = n
+given (Some (terms.Plus b n)) size old here = min (slice_index old b.0 + n) (size - 1)
+given (Some (terms.Minus b n)) size old here = min (slice_index old b.0 - n) (size - 1)
+
+-- What is assigned fits an agent of this size.
+abbrev Fits : Option Term → ℕ → Type 0
+Fits None size = ⊤
+Fits (Some term) size = FitsSize term size
+
+-- an agent may have that value, and it is below the size
+given-follows : (o : Option Term) (size : ℕ) (old : List ℕ) (here : ℕ) → here < size → Fits o size → IsTrue (agent_follows o size old here (given o size old here)) × (given o size old here < size)
+given-follows None size old here h fits = (eq-eqb here here refl, h)
+given-follows (Some terms.Any) size old here h fits = (lt-ltb 0 size (omega (arith, h)), omega (arith, h))
+given-follows (Some (terms.Number n)) size old here h fits = (eq-eqb n n refl, fits)
+given-follows (Some (terms.Plus b n)) size old here h fits =
+    (eq-eqb (min (slice_index old b.0 + n) (size - 1)) (min (slice_index old b.0 + n) (size - 1)) refl, omega (arith, h))
+given-follows (Some (terms.Minus b n)) size old here h fits =
+    (eq-eqb (min (slice_index old b.0 - n) (size - 1)) (min (slice_index old b.0 - n) (size - 1)) refl, omega (arith, h))
+
+-- such values of the agents from a on
+given_from : ℕ → List ℕ → List Set → List ℕ → List ℕ
+given_from a [] sets old = []
+given_from a (size ∷ sizes) sets old = given (term_for sets a) size old (slice_index old a) ∷ given_from (a + 1) sizes sets old
+
+length-given_from : (n : ℕ) (sizes : List ℕ) (sets : List Set) (old : List ℕ) → length (given_from n sizes sets old) ≡ length sizes
+unfolding given_from
+length-given_from n [] sets old = refl
+length-given_from n (size ∷ sizes) sets old = ap suc (length-given_from (n + 1) sizes sets old)
+
+at-given_from : (n : ℕ) (sizes : List ℕ) (sets : List Set) (old : List ℕ) (a : ℕ) → a < length sizes →
+    slice_index (given_from n sizes sets old) a ≡ given (term_for sets (n + a)) (slice_index sizes a) old (slice_index old (n + a))
+unfolding given_from
+at-given_from n [] sets old a h = absurd (let no_more : ⊥ = omega (arith, h) in no_more)
+at-given_from n (size ∷ sizes) sets old zero h =
+    let e : n ≡ n + 0 = omega arith in ap (λ m. given (term_for sets m) size old (slice_index old m)) e
+at-given_from n (size ∷ sizes) sets old (suc a) h =
+    let e : n + 1 + a ≡ n + suc a = omega arith in
+    at-given_from (n + 1) sizes sets old a (le_of_suc-le-suc h) ∙ ap (λ m. given (term_for sets m) (slice_index sizes a) old (slice_index old m)) e
+
+-- a case that covers values, and whose numbers fit, relates them to some
+pub case_relates-some : (sizes : List ℕ) (case : Case) (d : ℕ) → d < data_count sizes → AssignsBelow sizes case → IsTrue (covers case (split sizes d)) →
+    (e : ℕ) × (e < data_count sizes) × IsTrue (case_relates sizes case (split sizes d) (split sizes e))
+case_relates-some sizes case d h fits covered = (
+  joint sizes new,
+  joint-below sizes new values,
+  subst (λ v. IsTrue (case_relates sizes case old v)) (sym (split-joint sizes new values))
+      (and_from (covers case old) (agents_follow 0 sizes case.sets old new) covered (agents_follow_from 0 sizes case.sets old new follows)),
+)
+  where
+    old : List ℕ
+    old = split sizes d
+
+    new : List ℕ
+    new = given_from 0 sizes case.sets old
+
+    fits_at : (a : ℕ) → Fits (term_for case.sets a) (slice_index sizes a)
+    fits_at a = go (term_for case.sets a) refl
+      where
+        go : (o : Option Term) → term_for case.sets a ≡ o → Fits o (slice_index sizes a)
+        go None e = tt
+        go (Some term) e =
+            let s = term_for-some (λ set. FitsSize set.term (slice_index sizes set.agent.0)) case.sets a term fits e in
+            subst (λ t. FitsSize t (slice_index sizes a)) s.3 (subst (λ b. FitsSize s.0.term (slice_index sizes b)) s.2 s.1)
+
+    each : (a : ℕ) → a < length sizes → IsTrue (agent_follows (term_for case.sets a) (slice_index sizes a) old (slice_index old a) (slice_index new a)) × (slice_index new a < slice_index sizes a)
+    each a k =
+        let e : 0 + a ≡ a = omega arith in
+        let is : slice_index new a ≡ given (term_for case.sets a) (slice_index sizes a) old (slice_index old a) =
+        subst (λ m. slice_index new a ≡ given (term_for case.sets m) (slice_index sizes a) old (slice_index old m)) e (at-given_from 0 sizes case.sets old a k) in
+        let good = given-follows (term_for case.sets a) (slice_index sizes a) old (slice_index old a) (split-below sizes d a h k) (fits_at a) in
+        (subst (λ v. IsTrue (agent_follows (term_for case.sets a) (slice_index sizes a) old (slice_index old a) v)) (sym is) good.0, subst (λ v. v < slice_index sizes a) (sym is) good.1)
+
+    follows : (a : ℕ) → a < length sizes → IsTrue (agent_follows (term_for case.sets (0 + a)) (slice_index sizes a) old (slice_index old (0 + a)) (slice_index new (0 + a)))
+    follows a k =
+        let e : a ≡ 0 + a = omega arith in
+        subst (λ m. IsTrue (agent_follows (term_for case.sets m) (slice_index sizes a) old (slice_index old m) (slice_index new m))) e (each a k).0
+
+    values : AreValues sizes new
+    values = record { as_many = length-given_from 0 sizes case.sets old; below = λ a k. (each a k).1 }
+
+-- some case relates joint data that some case covers
+some_case_relates : (sizes : List ℕ) (cases : List Case) (d : ℕ) → d < data_count sizes → All (AssignsBelow sizes) cases → IsCovered sizes cases d →
+    (e : ℕ) × (e < data_count sizes) × IsTrue (list_any (λ case. case_relates sizes case (split sizes d) (split sizes e)) cases)
+some_case_relates sizes [] d h fits covered = absurd (true≢false (sym covered))
+some_case_relates sizes (case ∷ cases) d h fits covered =
+    ⊎_elim
+    (λ c. let k = case_relates-some sizes case d h (All-head (AssignsBelow sizes) case cases fits) c in
+    (k.0, k.1, or_left (case_relates sizes case (split sizes d) (split sizes k.0)) (list_any (λ x. case_relates sizes x (split sizes d) (split sizes k.0)) cases) k.2))
+    (λ c. let k = some_case_relates sizes cases d h (All-tail (AssignsBelow sizes) case cases fits) c in
+    (k.0, k.1, or_right (case_relates sizes case (split sizes d) (split sizes k.0)) (list_any (λ x. case_relates sizes x (split sizes d) (split sizes k.0)) cases) k.2))
+    (or_cases (covers case (split sizes d)) (list_any (λ x. covers x (split sizes d)) cases) covered)
+
+-- joint data that some case covers are related to some, where the cases' numbers fit
+pub related_from_covered : (sizes : List ℕ) (cases : List Case) (d : ℕ) → d < data_count sizes → All (AssignsBelow sizes) cases → IsCovered sizes cases d → (e : ℕ) × IsTrue (relates sizes cases d e)
+related_from_covered sizes cases d h fits covered =
+    let k = some_case_relates sizes cases d h fits covered in (
+      k.0,
+      and_from (nat_lt d (data_count sizes)) (nat_lt k.0 (data_count sizes) && list_any (λ case. case_relates sizes case (split sizes d) (split sizes k.0)) cases)
+          (lt-ltb d (data_count sizes) h)
+          (and_from (nat_lt k.0 (data_count sizes)) (list_any (λ case. case_relates sizes case (split sizes d) (split sizes k.0)) cases) (lt-ltb k.0 (data_count sizes) k.1) k.2),
+    )
+
+-- joint data that are related to some are covered by some case
+pub covered_from_related : (sizes : List ℕ) (cases : List Case) (d e : ℕ) → IsTrue (relates sizes cases d e) → IsCovered sizes cases d
+covered_from_related sizes cases d e h =
+    any_passes (λ case. case_relates sizes case (split sizes d) (split sizes e)) (λ case. covers case (split sizes d)) cases (relates-on_data sizes cases d e h).2
+    (λ k x l q. (and_parts (covers (slice_index_or cases k x) (split sizes d)) (agents_follow 0 sizes (slice_index_or cases k x).sets (split sizes d) (split sizes e)) q).0)

@@ -1,0 +1,47 @@
+-- What may be asked of cases: whom they name, what they assign, and what they cover.
+use Rattle.std.specs.Prelude.{ℕ, ◌<◌, List, [], ◌∷◌, slice_index, IsTrue, ⊤}
+use Rattle.std.specs.List.{All, list_any}
+use Rattle.nego_base.specs.Members.{is_in}
+use Rattle.nego_model.specs.declared.cases.Operand.{Operand}
+use Rattle.nego_model.specs.declared.cases.Operand.TheVariants as operands
+use Rattle.nego_model.specs.declared.cases.Term.{Term}
+use Rattle.nego_model.specs.declared.cases.Term.TheVariants as terms
+use Rattle.nego_model.specs.declared.cases.Case.{Case}
+use Rattle.nego_model.specs.Data.{split}
+use Rattle.nego_model.specs.Cases.{covers}
+
+-- the agents that the right side of a comparison names
+abbrev pub operand_agents : Operand → List ℕ
+operand_agents (operands.Number n) = []
+operand_agents (operands.Value b) = b.0 ∷ []
+
+-- the agents that a term names
+abbrev pub term_agents : Term → List ℕ
+term_agents terms.Any = []
+term_agents (terms.Number n) = []
+term_agents (terms.Plus b n) = b.0 ∷ []
+term_agents (terms.Minus b n) = b.0 ∷ []
+
+-- Each is one of the agents.
+abbrev pub AreAmong : List ℕ → List ℕ → Type 0
+AreAmong agents named = All (λ a. IsTrue (is_in a agents)) named
+
+-- Each agent that the case names is one of these.
+pub record NamesOnly (agents : List ℕ) (case : Case) : Type 0 where
+  pub tests : All (λ test. AreAmong agents (test.agent.0 ∷ operand_agents test.right)) case.tests
+  pub sets : All (λ set. AreAmong agents (set.agent.0 ∷ term_agents set.term)) case.sets
+
+-- A number that is assigned to an agent of this size is below it.
+abbrev pub FitsSize : Term → ℕ → Type 0
+FitsSize terms.Any size = ⊤
+FitsSize (terms.Number n) size = n < size
+FitsSize (terms.Plus b n) size = ⊤
+FitsSize (terms.Minus b n) size = ⊤
+
+-- Each number that the case assigns is below its agent's size.
+abbrev pub AssignsBelow : List ℕ → Case → Type 0
+AssignsBelow sizes case = All (λ set. FitsSize set.term (slice_index sizes set.agent.0)) case.sets
+
+-- Some case covers the joint data.
+abbrev pub IsCovered : List ℕ → List Case → ℕ → Type 0
+IsCovered sizes cases d = IsTrue (list_any (λ case. covers case (split sizes d)) cases)
