@@ -7,6 +7,7 @@ pub mod CompleteRuns
 pub mod Rising
 pub mod Proper
 pub mod Ways
+pub mod Simulating
 pub mod JointData
 pub mod Tables
 pub mod CaseRelations
