@@ -77,6 +77,12 @@ module _ (work : PlainWork) (rise : base.IsRising (numbers_of work.outcomes)) wh
       let found : outcome_at work o ≡ Some q.0 = subst (λ p. outcome_at work p ≡ Some q.0) q.1 q.3 in
       (q.0, found, eqb-true q.0.atom n q.2, All-found P work.outcomes o q.0 h found)
 
+  -- the atom of what is found by a number is the one of which the number is an outcome
+  pub found-atom : (n o : ℕ) (x : WorkOutcome) → outcome_at work o ≡ Some x → IsTrue (is_in o (work_outcomes work n)) → x.atom ≡ n
+  found-atom n o x h k =
+      let y = outcome_found (λ z. outcome_at work z.number ≡ Some z) n o (each_found work.outcomes rise) k in
+      ap (λ z. z.atom) (same_Some x y.0 (sym h ∙ y.1)) ∙ y.2
+
   -- what is found by a number is an outcome of its atom
   pub found_outcome : (n o : ℕ) (x : WorkOutcome) → outcome_at work o ≡ Some x → x.atom ≡ n → IsTrue (is_in o (work_outcomes work n))
   found_outcome n o x h e = found_passing (λ y. y.atom == n) work.outcomes o x h (eq-eqb x.atom n e)

@@ -74,6 +74,10 @@ module _ (one two : Negotiation) (same : SameAtoms one two) where
 
 -- ---- what one occurrence shows, shown of all that is reached
 
+-- of any marking
+abbrev pub Anywhere : PlainMarking → Type 0
+Anywhere m = Unit {0}
+
 -- What holds of a marking holds of what an occurrence leaves.
 abbrev pub Lasts : Negotiation → (PlainMarking → Type 0) → Type 0
 Lasts nego P = (from to : PlainMarking) (step : Occurrence) → P from → after nego from step ≡ Some to → P to
@@ -194,7 +198,7 @@ module _ (one two : Negotiation) (same : SameNegotiation one two) where
 -- Negotiations that are the same are sound alike.
 pub Sound-alike : (one two : Negotiation) → SameNegotiation one two → IsSound one → IsSound two
 Sound-alike one two same =
-    Sound-same one two (λ m. Unit {0}) (λ m. Unit {0}) same.form tt tt (λ from to step p h. tt) (λ from to step p h. tt)
+    Sound-same one two Anywhere Anywhere same.form tt tt (λ from to step p h. tt) (λ from to step p h. tt)
     (λ from to step p h. Leads_one two from to step (same-step one two same from to step h))
     (λ from to step p h. Leads_one one from to step (same-step two one (SameNegotiation-turned one two same) from to step h))
 
@@ -202,7 +206,7 @@ Sound-alike one two same =
 pub Runs-alike : (one : Negotiation) (relation : Relation) (two : Negotiation) (relation' : Relation) → SameNegotiation one two → IsNegotiation one → IsDeterministic one → IsNegotiation two →
     ((n o d e : ℕ) → IsOutcome one n o → relation o d e → relation' o d e) → (f d e : ℕ) → IsTrue (is_in f (one.outcomes one.last)) → Runs one relation f d e → Runs two relation' f d e
 Runs-alike one relation two relation' same ok single ok' related f d e final =
-    Runs-same one relation two relation' (λ m. Unit {0}) same.form ok single ok' tt (λ from to step p h. tt)
+    Runs-same one relation two relation' Anywhere same.form ok single ok' tt (λ from to step p h. tt)
     (λ from to c b step p h r.
       Reaches_one two relation' from c to b step (same-step one two same from to step h) (related step.0 step.1 c b (after-outcome one from step to h) r))
     f (λ h. subst (λ n. IsTrue (is_in f (two.outcomes n))) same.form.last (same-outcome one two same one.last f h).1)
