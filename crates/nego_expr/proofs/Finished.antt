@@ -1,13 +1,13 @@
 -- The summary of a work of one atom tells the diagram for which the work stands.
-use Rattle.std.proofs.Common.{◌≡◌, ◌↔◌, ℕ, ◌<◌, ◌==◌, List, [], ◌∷◌, length, map, slice_index, slice_index_or, Some, IsTrue, refl, sym, subst, ap, ap₂, ◌∙◌, arith}
+use Rattle.std.proofs.Common.{◌≡◌, ◌↔◌, ℕ, ◌<◌, ◌==◌, List, [], ◌∷◌, length, map, slice_index, slice_index_or, Some, IsTrue, refl, sym, subst, ap, ◌∙◌, arith}
 use Rattle.std.proofs.lemmas.List.{length-map, get_or-map}
 use Rattle.std.proofs.lemmas.List.Elements.{All-nil, All-cons, All-head, All-tail, All-filter}
 use Rattle.std.specs.List.{All}
 use Rattle.nego_base.specs.Members.{is_in}
 use Rattle.nego_model.specs.Joining.{By, Runs}
 use Rattle.nego_model.specs.Expression.{Means}
-use Rattle.nego_model.specs.Diagram.{PlainDiagram, negotiation_of, relation_of, outcome_name}
-use Rattle.nego_model.specs.Summary.{PlainFinal, final_outcomes, Tells}
+use Rattle.nego_model.specs.Diagram.{PlainDiagram, negotiation_of, relation_of}
+use Rattle.nego_model.specs.Summary.{final_outcomes}
 use Rattle.nego_model.proofs.Members.{All-from_members}
 use Rattle.nego_expr.specs.Work.{WorkOutcome, PlainWork, IsWork, negotiation_of_work, work_outcomes, outcome_at, ByWork}
 use Rattle.nego_expr.specs.Use.{outcomes_at}
@@ -41,10 +41,11 @@ All-finals_of P (name ∷ names) (x ∷ xs) h =
 nobody : WorkOutcome
 nobody = record { number = 0; atom = 0; targets = []; node = 0; passed = [] }
 
-module _ (diagram : PlainDiagram) (work : PlainWork) (ok : IsWork work) (one : length work.atoms ≡ 1) (stands : Stands work diagram) where
-  as_many : length work.names ≡ length (outcomes_at work work.last)
-  as_many = ok.named ∙ length-map (outcomes_at work work.last) (λ outcome. outcome.number)
+-- a work has as many names as outcomes of the last atom
+pub names_as_many : (work : PlainWork) → IsWork work → length work.names ≡ length (outcomes_at work work.last)
+names_as_many work ok = ok.named ∙ length-map (outcomes_at work work.last) (λ outcome. outcome.number)
 
+module _ (diagram : PlainDiagram) (work : PlainWork) (ok : IsWork work) (one : length work.atoms ≡ 1) (stands : Stands work diagram) where
   -- the outcome at a place is found, and its node is that of the final outcome there
   each_final : (k d e : ℕ) → k < length (outcomes_at work work.last) →
       Means (By (relation_of diagram)) work.nodes (slice_index (map (λ final. final.node) (summary_of_work work).finals) k) d e
@@ -53,7 +54,7 @@ module _ (diagram : PlainDiagram) (work : PlainWork) (ok : IsWork work) (one : l
       subst (λ f. Means (By (relation_of diagram)) work.nodes (slice_index (map (λ final. final.node) (summary_of_work work).finals) k) d e ↔ ByWork (relation_of diagram) work f d e)
       (sym (get_or-map (λ outcome. outcome.number) (outcomes_at work work.last) k nobody 0 h))
       (subst (λ i. Means (By (relation_of diagram)) work.nodes i d e ↔ ByWork (relation_of diagram) work x.number d e)
-      (sym (ap (λ nodes. slice_index nodes k) (nodes-finals_of work.names (outcomes_at work work.last) as_many) ∙ get_or-map (λ outcome. outcome.node) (outcomes_at work work.last) k nobody 0 h))
+      (sym (ap (λ nodes. slice_index nodes k) (nodes-finals_of work.names (outcomes_at work work.last) (names_as_many work ok)) ∙ get_or-map (λ outcome. outcome.node) (outcomes_at work work.last) k nobody 0 h))
       (let m = ByWork-found (relation_of diagram) work x.number x d e found in (m.1, m.0)))
     where
       x : WorkOutcome
@@ -96,6 +97,6 @@ finished_works diagram work ok one stands named = record {
         (All-filter (λ outcome. outcome.atom == work.last) (λ outcome. outcome.node < length work.nodes) work.outcomes ok.nodes_there);
   };
   sound = stands.sound.1 (one_atom_works work ok one).0;
-  named = names-finals_of work.names (outcomes_at work work.last) (as_many diagram work ok one stands) ∙ named;
+  named = names-finals_of work.names (outcomes_at work work.last) (names_as_many work ok) ∙ named;
   each = λ k d e h _ _. each diagram work ok one stands k d e h;
 }

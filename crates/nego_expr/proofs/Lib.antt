@@ -4,3 +4,6 @@ pub mod Finished
 pub mod WorkEdits
 pub mod AddedNodes
 pub mod WorkForm
+pub mod BaseNodes
+pub mod FreshLists
+pub mod FreshWorks

@@ -5,7 +5,7 @@ use Rattle.std.proofs.lemmas.List.{same_from_push}
 use Rattle.nego_base.specs.Members.{is_in}
 use Rattle.nego_model.specs.Negotiation.{Negotiation, IsNegotiation}
 use Rattle.nego_model.specs.Occurring.{PlainMarking, Occurrence, enables, after, leaves, opening_marking, final_marking, IsComplete, IsSound}
-use Rattle.nego_model.specs.Joining.{Relation, RelationTest, EndsWith, Joins, Runs}
+use Rattle.nego_model.specs.Joining.{Relation, EndsWith, Joins, Runs}
 use Rattle.nego_model.specs.Reaching.{all_at_last}
 use Rattle.nego_model.proofs.Members.{is_in_none, is_in_single, some_member}
 use Rattle.nego_model.proofs.Markings.{enables-atom, enables-party, ready-replicate}
@@ -13,7 +13,7 @@ use Rattle.nego_model.proofs.Steps.{after-some, after-outcome, leaves-first, lea
 use Rattle.nego_model.proofs.Joined.{Joins_one, related_from_one}
 use Rattle.nego_model.proofs.CompleteRuns.{opening_not_final}
 use Rattle.nego_model.proofs.Ways.{all_at_last-enables, after_all_at_last}
-use Rattle.nego_expr.specs.Work.{WorkAtom, PlainWork, IsWork, negotiation_of_work, work_outcomes, ByWork}
+use Rattle.nego_expr.specs.Work.{WorkAtom, PlainWork, IsWork, negotiation_of_work, ByWork}
 use Rattle.nego_expr.specs.Finish.{OneAtomWorksAreSound}
 
 -- nothing occurs in the final marking
@@ -43,10 +43,13 @@ module _ (nego : Negotiation) (ok : IsNegotiation nego) (only : (n : ℕ) → Is
   first_left step left e =
       let o = after-outcome nego (opening_marking nego) step left e in
       let n : step.0 ≡ nego.last = only step.0 o.0 in
-      let h : IsTrue (is_in step.1 (nego.outcomes nego.last)) = subst (λ m. IsTrue (is_in step.1 (nego.outcomes m))) n o.1 in
-      (n, h, sym (same_Some (final_marking nego) left
-      (sym (ap (λ m. after nego m (nego.last, step.1)) opening_at_last ∙ after_all_at_last nego ok step.1 (ok.last_there, h))
-      ∙ subst (λ m. after nego (opening_marking nego) (m, step.1) ≡ Some left) n e)))
+      let h : IsTrue (is_in step.1 (nego.outcomes nego.last)) = subst (λ m. IsTrue (is_in step.1 (nego.outcomes m))) n o.1 in (
+        n,
+        h,
+        sym (same_Some (final_marking nego) left
+            (sym (ap (λ m. after nego m (nego.last, step.1)) opening_at_last ∙ after_all_at_last nego ok step.1 (ok.last_there, h))
+            ∙ subst (λ m. after nego (opening_marking nego) (m, step.1) ≡ Some left) n e)),
+      )
 
   -- a run is nothing, or one outcome of the atom
   pub one_step_at_most : (run : List Occurrence) (left : PlainMarking) → leaves nego (opening_marking nego) run ≡ Some left →
@@ -93,15 +96,15 @@ module _ (nego : Negotiation) (ok : IsNegotiation nego) (only : (n : ℕ) → Is
   -- the complete runs with an outcome of the atom join what this outcome relates
   pub one_step_runs : (relation : Relation) (f d e : ℕ) → IsTrue (is_in f (nego.outcomes nego.last)) → Runs nego relation f d e ↔ relation f d e
   one_step_runs relation f d e h = (
-      λ r. related_from_one relation (nego.last, f) d e
-          (subst (λ run. Joins relation run d e) (one_step_run r.run r.ends.0 f r.complete r.ends.1) r.joins),
-      λ r. record {
-        run = (nego.last, f) ∷ [];
-        complete = one_step_complete f h;
-        ends = (nego.last, ([], refl));
-        joins = Joins_one relation (nego.last, f) d e r;
-      },
-    )
+    λ r. related_from_one relation (nego.last, f) d e
+        (subst (λ run. Joins relation run d e) (one_step_run r.run r.ends.0 f r.complete r.ends.1) r.joins),
+    λ r. record {
+      run = (nego.last, f) ∷ [];
+      complete = one_step_complete f h;
+      ends = (nego.last, ([], refl));
+      joins = Joins_one relation (nego.last, f) d e r;
+    },
+  )
 
 -- of one atom each two are the same
 same_of_one : (atoms : List WorkAtom) (m n : ℕ) → length atoms ≡ 1 → IsTrue (is_in m (map (λ atom. atom.number) atoms)) → IsTrue (is_in n (map (λ atom. atom.number) atoms)) → m ≡ n
@@ -116,6 +119,6 @@ only_last work ok one n h = same_of_one work.atoms n work.last one h ok.form.las
 -- a work of one atom is sound, and its outcomes' expressions are what its complete runs relate
 pub one_atom_works : OneAtomWorksAreSound
 one_atom_works work ok one = (
-    one_atom_left_sound (negotiation_of_work work) ok.form (only_last work ok one),
-    λ test f d e h. one_step_runs (negotiation_of_work work) ok.form (only_last work ok one) (ByWork test work) f d e h,
-  )
+  one_atom_left_sound (negotiation_of_work work) ok.form (only_last work ok one),
+  λ test f d e h. one_step_runs (negotiation_of_work work) ok.form (only_last work ok one) (ByWork test work) f d e h,
+)
