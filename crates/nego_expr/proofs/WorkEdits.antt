@@ -1,15 +1,15 @@
 -- Laws of the alive outcomes of a work: what is found among them by its number, before and after an edit.
 use Rattle.std.proofs.Common.{◌≡◌, ◌≢◌, ◌⊎◌, inl, inr, ⊎_elim, ℕ, suc, ◌+◌, ◌≤◌, Bool, true, false, not, ◌==◌, cond, List, [], ◌∷◌, length, map, slice_get, Option, Some, None, IsTrue, refl, sym, subst, ap, ap₂, ◌∙◌, arith, eq-eqb, ne_eqb, eqb-true, add-zero}
 use Rattle.std.proofs.lemmas.Bool.{cond-true, cond-false, cases_eq, true≢false}
-use Rattle.std.proofs.lemmas.Option.{none-some, same_Some}
-use Rattle.std.proofs.lemmas.List.Elements.{All-nil, All-cons, All-head, All-tail, All-filter}
+use Rattle.std.proofs.lemmas.Option.{none-some, same_Some, slice_get_within, get_or_from_slice_get}
+use Rattle.std.proofs.lemmas.List.Elements.{All-nil, All-cons, All-head, All-tail, All-filter, All-get_or}
 use Rattle.std.specs.List.{All, filter}
-use Rattle.nego_base.specs.Members.{is_in, without_member, RisesFrom}
+use Rattle.nego_base.specs.Members.{is_in, without_member, RisesFrom, IsRising}
 use Rattle.nego_base.proofs.Members.{rises_more}
 use Rattle.nego_model.proofs.Members.{is_in_first, is_in_later, is_in_cases, is_in_none}
 use Rattle.nego_expr.specs.Work.{WorkAtom, WorkOutcome, parties_among, outcome_among}
 use Rattle.nego_expr.specs.Use.{with_outcome, without_outcome, with_nodes_from}
-use Rattle.nego_expr.proofs.Alive.{outcome_among_first, outcome_among_later}
+use Rattle.nego_expr.proofs.Alive.{outcome_among_first, outcome_among_later, each_found}
 
 -- the outcomes' numbers
 abbrev pub numbers_of : List WorkOutcome → List ℕ
@@ -18,6 +18,10 @@ numbers_of outcomes = map (λ outcome. outcome.number) outcomes
 -- an outcome with another node
 abbrev pub with_node : ℕ → WorkOutcome → WorkOutcome
 with_node i x = record { number = x.number; atom = x.atom; targets = x.targets; node = i; passed = x.passed }
+
+-- what holds of each outcome holds of the one at a place
+pub All-at_place : (P : WorkOutcome → Type 0) (outcomes : List WorkOutcome) (k : ℕ) (x : WorkOutcome) → All P outcomes → slice_get outcomes k ≡ Some x → P x
+All-at_place P outcomes k x h e = subst P (get_or_from_slice_get outcomes k x x e) (All-get_or P outcomes k x (slice_get_within outcomes k x e) h)
 
 -- ---- what is found by a number
 
@@ -89,6 +93,15 @@ none_found outcomes o h = go (outcome_among outcomes o) refl
     go : (found : Option WorkOutcome) → outcome_among outcomes o ≡ found → found ≡ None
     go None e = refl
     go (Some x) e = absurd (h (there_found outcomes o x e))
+
+-- where numbers rise, what is found and passes a test is found among those that pass
+pub found-passing : (test : WorkOutcome → Bool) (outcomes : List WorkOutcome) (o : ℕ) (x : WorkOutcome) → IsRising (numbers_of outcomes) → outcome_among outcomes o ≡ Some x → IsTrue (test x) → outcome_among (filter test outcomes) o ≡ Some x
+found-passing test outcomes o x rise h t =
+    let y = found_there (filter test outcomes) o (found_passing test outcomes o x h t) in
+    let Found : WorkOutcome → Type 0 = λ z. outcome_among outcomes z.number ≡ Some z in
+    let k : outcome_among outcomes y.0.number ≡ Some y.0 = All-found Found (filter test outcomes) o y.0 (All-filter test Found outcomes (each_found outcomes rise)) y.1 in
+    let e : y.0 ≡ x = same_Some y.0 x (sym k ∙ (ap (outcome_among outcomes) (found-number (filter test outcomes) o y.0 y.1) ∙ h)) in
+    y.1 ∙ ap (λ z. Some z) e
 
 -- the numbers of those that pass a test rise where the numbers do
 pub rises-passing : (test : WorkOutcome → Bool) (low : ℕ) (outcomes : List WorkOutcome) → RisesFrom low (numbers_of outcomes) → RisesFrom low (numbers_of (filter test outcomes))

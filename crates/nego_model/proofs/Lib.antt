@@ -8,6 +8,7 @@ pub mod Rising
 pub mod Expressions
 pub mod Proper
 pub mod Ways
+pub mod Gathered
 pub mod Simulating
 pub mod Commuting
 pub mod JointData
