@@ -1,5 +1,5 @@
 -- Laws of the alive outcomes of a work: what is found among them by its number, before and after an edit.
-use Rattle.std.proofs.Common.{◌≡◌, ◌≢◌, ◌⊎◌, inl, inr, ⊎_elim, ℕ, suc, ◌+◌, ◌≤◌, Bool, true, false, not, ◌==◌, cond, List, [], ◌∷◌, length, map, slice_get, Option, Some, None, IsTrue, refl, sym, subst, ap, ap₂, ◌∙◌, arith, eq-eqb, ne_eqb, eqb-true, add-zero}
+use Rattle.std.proofs.Common.{◌≡◌, ◌≢◌, ◌⊎◌, inl, inr, ⊎_elim, ℕ, suc, ◌+◌, ◌<◌, ◌≤◌, Bool, true, false, not, ◌==◌, cond, List, [], ◌∷◌, ◌++◌, length, map, option_map, slice_get, Option, Some, None, IsTrue, refl, sym, subst, ap, ap₂, ◌∙◌, arith, eq-eqb, ne_eqb, eqb-true, add-zero}
 use Rattle.std.proofs.lemmas.Bool.{cond-true, cond-false, cases_eq, true≢false}
 use Rattle.std.proofs.lemmas.Option.{none-some, same_Some, slice_get_within, get_or_from_slice_get}
 use Rattle.std.proofs.lemmas.List.Elements.{All-nil, All-cons, All-head, All-tail, All-filter, All-get_or}
@@ -121,6 +121,67 @@ filter-filter test (y ∷ ys) = go (test y) refl (filter-filter test ys)
     go true e k = cond-true (test y) (y ∷ filter test (filter test ys)) (filter test (filter test ys)) e ∙ ap (◌∷◌ y) k
     go false e k = k
 
+-- two tests may be made in any order
+pub filter-swap : (p q : WorkOutcome → Bool) (outcomes : List WorkOutcome) → filter p (filter q outcomes) ≡ filter q (filter p outcomes)
+filter-swap p q [] = refl
+filter-swap p q (y ∷ ys) = go (p y) (q y) refl refl (filter-swap p q ys)
+  where
+    go : (b t : Bool) → p y ≡ b → q y ≡ t → filter p (filter q ys) ≡ filter q (filter p ys) → filter p (cond t (y ∷ filter q ys) (filter q ys)) ≡ filter q (cond b (y ∷ filter p ys) (filter p ys))
+    go true true e f k = cond-true (p y) (y ∷ filter p (filter q ys)) (filter p (filter q ys)) e ∙ (ap (◌∷◌ y) k ∙ sym (cond-true (q y) (y ∷ filter q (filter p ys)) (filter q (filter p ys)) f))
+    go true false e f k = k ∙ sym (cond-false (q y) (y ∷ filter q (filter p ys)) (filter q (filter p ys)) f)
+    go false true e f k = cond-false (p y) (y ∷ filter p (filter q ys)) (filter p (filter q ys)) e ∙ k
+    go false false e f k = k
+
+-- where numbers rise, none is found among those that pass a test by the number of one that doesn't
+pub found-failing : (test : WorkOutcome → Bool) (outcomes : List WorkOutcome) (o : ℕ) (x : WorkOutcome) → IsRising (numbers_of outcomes) → outcome_among outcomes o ≡ Some x → test x ≡ false → outcome_among (filter test outcomes) o ≡ None
+found-failing test outcomes o x rise h t = none_found (filter test outcomes) o (λ m.
+    let y = passing_at test (λ z. outcome_among outcomes z.number ≡ Some z) outcomes o (each_found outcomes rise) m in
+    let e : y.0 ≡ x = same_Some y.0 x (sym y.3 ∙ (ap (outcome_among outcomes) y.1 ∙ h)) in
+    true≢false (sym y.2 ∙ (ap test e ∙ t)))
+
+-- ---- each outcome is changed, and none gets another number
+
+module _ (change : WorkOutcome → WorkOutcome) (same : (x : WorkOutcome) → (change x).number ≡ x.number) where
+  -- the numbers stay
+  pub numbers-changed : (outcomes : List WorkOutcome) → numbers_of (map change outcomes) ≡ numbers_of outcomes
+  numbers-changed [] = refl
+  numbers-changed (y ∷ ys) = ap₂ ◌∷◌ (same y) (numbers-changed ys)
+
+  -- what was found is found changed
+  pub found-changed : (outcomes : List WorkOutcome) (o : ℕ) → outcome_among (map change outcomes) o ≡ option_map change (outcome_among outcomes o)
+  found-changed [] o = refl
+  found-changed (y ∷ ys) o = ap (λ n. cond (n == o) (Some (change y)) (outcome_among (map change ys) o)) (same y) ∙ go (y.number == o) (found-changed ys o)
+    where
+      go : (b : Bool) → outcome_among (map change ys) o ≡ option_map change (outcome_among ys o) →
+          cond b (Some (change y)) (outcome_among (map change ys) o) ≡ option_map change (cond b (Some y) (outcome_among ys o))
+      go true k = refl
+      go false k = k
+
+-- ---- outcomes are added at the end
+
+-- what was found is found
+pub found-before : (outcomes more : List WorkOutcome) (o : ℕ) (x : WorkOutcome) → outcome_among outcomes o ≡ Some x → outcome_among (outcomes ++ more) o ≡ Some x
+found-before [] more o x h = absurd (none-some x h)
+found-before (y ∷ ys) more o x h = ⊎_elim
+    (λ k. cond-true (y.number == o) (Some y) (outcome_among (ys ++ more) o) (eq-eqb y.number o k.0) ∙ ap (λ z. Some z) k.1)
+    (λ k. outcome_among_later y (ys ++ more) o k.0 ∙ found-before ys more o x k.1)
+    (found_cases y ys o x h)
+
+-- by a number that wasn't there, what is found is among the added ones
+pub found-behind : (outcomes more : List WorkOutcome) (o : ℕ) → outcome_among outcomes o ≡ None → outcome_among (outcomes ++ more) o ≡ outcome_among more o
+found-behind [] more o h = refl
+found-behind (y ∷ ys) more o h = ⊎_elim
+    (λ e. absurd (none-some y (sym h ∙ cond-true (y.number == o) (Some y) (outcome_among ys o) (eq-eqb y.number o e))))
+    (λ other. outcome_among_later y (ys ++ more) o other ∙ found-behind ys more o (sym (outcome_among_later y ys o other) ∙ h))
+    (cases_eq y.number o)
+
+-- numbers below a bound that rise, and numbers that rise from there, rise
+pub rises-append : (low high : ℕ) (xs ys : List ℕ) → low ≤ high → RisesFrom low xs → All (λ x. x < high) xs → RisesFrom high ys → RisesFrom low (xs ++ ys)
+rises-append low high [] ys l h below k = rises_more low high ys l k
+rises-append low high (x ∷ xs) ys l h below k =
+    let here : x < high = All-head (λ z. z < high) x xs below in
+    (h.0, rises-append (x + 1) high xs ys (omega (arith, here)) h.1 (All-tail (λ z. z < high) x xs below) k)
+
 -- ---- one outcome is another now
 
 -- the outcome that stands at the place of one
@@ -140,26 +201,29 @@ numbers-with_outcome new (y ∷ ys) = ap₂ ◌∷◌
     (⊎_elim (λ e. ap (λ z. z.number) (replaced-same new y e) ∙ sym e) (λ other. ap (λ z. z.number) (replaced-other new y other)) (cases_eq y.number new.number))
     (numbers-with_outcome new ys)
 
--- the numbers of those that pass a test stay, where the new outcome passes it as the one of its number did
+-- those that pass a test change likewise, where the new outcome passes it as the one of its number did
+pub filter-with_outcome : (test : WorkOutcome → Bool) (new : WorkOutcome) (outcomes : List WorkOutcome) → All (λ x. x.number ≡ new.number → test x ≡ test new) outcomes →
+    filter test (with_outcome new outcomes) ≡ with_outcome new (filter test outcomes)
+filter-with_outcome test new [] h = refl
+filter-with_outcome test new (y ∷ ys) h =
+    let rest : filter test (with_outcome new ys) ≡ with_outcome new (filter test ys) = filter-with_outcome test new ys (All-tail Same y ys h) in
+    ap (λ b. cond b (replaced new y ∷ filter test (with_outcome new ys)) (filter test (with_outcome new ys))) passes ∙ go (test y) rest
+  where
+    Same : WorkOutcome → Type 0
+    Same x = x.number ≡ new.number → test x ≡ test new
+
+    passes : test (replaced new y) ≡ test y
+    passes = ⊎_elim (λ e. ap test (replaced-same new y e) ∙ sym (All-head Same y ys h e)) (λ other. ap test (replaced-other new y other)) (cases_eq y.number new.number)
+
+    go : (b : Bool) → filter test (with_outcome new ys) ≡ with_outcome new (filter test ys) →
+        cond b (replaced new y ∷ filter test (with_outcome new ys)) (filter test (with_outcome new ys)) ≡ with_outcome new (cond b (y ∷ filter test ys) (filter test ys))
+    go true k = ap (◌∷◌ (replaced new y)) k
+    go false k = k
+
+-- so their numbers stay
 pub passing-with_outcome : (test : WorkOutcome → Bool) (new : WorkOutcome) (outcomes : List WorkOutcome) → All (λ x. x.number ≡ new.number → test x ≡ test new) outcomes →
     numbers_of (filter test (with_outcome new outcomes)) ≡ numbers_of (filter test outcomes)
-passing-with_outcome test new [] h = refl
-passing-with_outcome test new (y ∷ ys) h =
-    let rest : numbers_of (filter test (with_outcome new ys)) ≡ numbers_of (filter test ys) = passing-with_outcome test new ys (All-tail P y ys h) in
-    ⊎_elim
-    (λ e. ap (λ z. numbers_of (cond (test z) (z ∷ filter test (with_outcome new ys)) (filter test (with_outcome new ys)))) (replaced-same new y e)
-      ∙ (ap (λ b. numbers_of (cond b (new ∷ filter test (with_outcome new ys)) (filter test (with_outcome new ys)))) (sym (All-head P y ys h e))
-      ∙ go (test y) new (sym e) rest))
-    (λ other. ap (λ z. numbers_of (cond (test z) (z ∷ filter test (with_outcome new ys)) (filter test (with_outcome new ys)))) (replaced-other new y other) ∙ go (test y) y refl rest)
-    (cases_eq y.number new.number)
-  where
-    P : WorkOutcome → Type 0
-    P x = x.number ≡ new.number → test x ≡ test new
-
-    go : (b : Bool) (z : WorkOutcome) → z.number ≡ y.number → numbers_of (filter test (with_outcome new ys)) ≡ numbers_of (filter test ys) →
-        numbers_of (cond b (z ∷ filter test (with_outcome new ys)) (filter test (with_outcome new ys))) ≡ numbers_of (cond b (y ∷ filter test ys) (filter test ys))
-    go true z e k = ap₂ ◌∷◌ e k
-    go false z e k = k
+passing-with_outcome test new outcomes h = ap numbers_of (filter-with_outcome test new outcomes h) ∙ numbers-with_outcome new (filter test outcomes)
 
 -- by its number the new outcome is found
 pub found-with_outcome : (new : WorkOutcome) (outcomes : List WorkOutcome) → IsTrue (is_in new.number (numbers_of outcomes)) → outcome_among (with_outcome new outcomes) new.number ≡ Some new
@@ -167,8 +231,8 @@ found-with_outcome new [] h = absurd (is_in_none new.number [] refl h)
 found-with_outcome new (y ∷ ys) h = ⊎_elim
     (λ e. ap (λ z. outcome_among (z ∷ with_outcome new ys) new.number) (replaced-same new y e) ∙ outcome_among_first new (with_outcome new ys))
     (λ other. ap (λ z. outcome_among (z ∷ with_outcome new ys) new.number) (replaced-other new y other)
-      ∙ (outcome_among_later y (with_outcome new ys) new.number other
-      ∙ ⊎_elim (λ e. absurd (other e)) (λ m. found-with_outcome new ys m) (is_in_cases new.number y.number (numbers_of ys) h)))
+    ∙ (outcome_among_later y (with_outcome new ys) new.number other
+    ∙ ⊎_elim (λ e. absurd (other e)) (λ m. found-with_outcome new ys m) (is_in_cases new.number y.number (numbers_of ys) h)))
     (cases_eq y.number new.number)
 
 -- by other numbers the same is found as before
@@ -176,10 +240,10 @@ pub found-with_other : (new : WorkOutcome) (outcomes : List WorkOutcome) (o : �
 found-with_other new [] o h = refl
 found-with_other new (y ∷ ys) o h = ⊎_elim
     (λ e. ap (λ z. outcome_among (z ∷ with_outcome new ys) o) (replaced-same new y e)
-      ∙ (outcome_among_later new (with_outcome new ys) o (λ q. h (sym q))
-      ∙ (found-with_other new ys o h ∙ sym (outcome_among_later y ys o (λ q. h (sym q ∙ e))))))
+    ∙ (outcome_among_later new (with_outcome new ys) o (λ q. h (sym q))
+    ∙ (found-with_other new ys o h ∙ sym (outcome_among_later y ys o (λ q. h (sym q ∙ e))))))
     (λ other. ap (λ z. outcome_among (z ∷ with_outcome new ys) o) (replaced-other new y other)
-      ∙ ap (λ found. cond (y.number == o) (Some y) found) (found-with_other new ys o h))
+    ∙ ap (λ found. cond (y.number == o) (Some y) found) (found-with_other new ys o h))
     (cases_eq y.number new.number)
 
 -- what holds of each, and of the new one, holds of each now
@@ -192,20 +256,6 @@ All-with_outcome P new (y ∷ ys) p h =
 
 -- ---- one outcome is gone
 
--- the numbers of those that pass a test are without it
-pub passing-without_outcome : (test : WorkOutcome → Bool) (o : ℕ) (outcomes : List WorkOutcome) → numbers_of (filter test (without_outcome o outcomes)) ≡ without_member o (numbers_of (filter test outcomes))
-passing-without_outcome test o [] = refl
-passing-without_outcome test o (y ∷ ys) = go (not (y.number == o)) (test y) refl refl (passing-without_outcome test o ys)
-  where
-    go : (b t : Bool) → not (y.number == o) ≡ b → test y ≡ t → numbers_of (filter test (without_outcome o ys)) ≡ without_member o (numbers_of (filter test ys)) →
-        numbers_of (filter test (cond b (y ∷ without_outcome o ys) (without_outcome o ys))) ≡ without_member o (numbers_of (cond t (y ∷ filter test ys) (filter test ys)))
-    go true true e f k =
-        ap numbers_of (cond-true (test y) (y ∷ filter test (without_outcome o ys)) (filter test (without_outcome o ys)) f)
-        ∙ (ap (◌∷◌ y.number) k ∙ sym (cond-true (not (y.number == o)) (y.number ∷ without_member o (numbers_of (filter test ys))) (without_member o (numbers_of (filter test ys))) e))
-    go true false e f k = ap numbers_of (cond-false (test y) (y ∷ filter test (without_outcome o ys)) (filter test (without_outcome o ys)) f) ∙ k
-    go false true e f k = k ∙ sym (cond-false (not (y.number == o)) (y.number ∷ without_member o (numbers_of (filter test ys))) (without_member o (numbers_of (filter test ys))) e)
-    go false false e f k = k
-
 -- the numbers are without it
 pub numbers-without_outcome : (o : ℕ) (outcomes : List WorkOutcome) → numbers_of (without_outcome o outcomes) ≡ without_member o (numbers_of outcomes)
 numbers-without_outcome o [] = refl
@@ -215,6 +265,10 @@ numbers-without_outcome o (y ∷ ys) = go (not (y.number == o)) (numbers-without
         numbers_of (cond b (y ∷ without_outcome o ys) (without_outcome o ys)) ≡ cond b (y.number ∷ without_member o (numbers_of ys)) (without_member o (numbers_of ys))
     go true k = ap (◌∷◌ y.number) k
     go false k = k
+
+-- the numbers of those that pass a test are without it
+pub passing-without_outcome : (test : WorkOutcome → Bool) (o : ℕ) (outcomes : List WorkOutcome) → numbers_of (filter test (without_outcome o outcomes)) ≡ without_member o (numbers_of (filter test outcomes))
+passing-without_outcome test o outcomes = ap numbers_of (filter-swap test (λ x. not (x.number == o)) outcomes) ∙ numbers-without_outcome o (filter test outcomes)
 
 -- by its number none is found
 pub found-without_same : (o : ℕ) (outcomes : List WorkOutcome) → outcome_among (without_outcome o outcomes) o ≡ None
@@ -276,13 +330,16 @@ pub found-with_nodes_from : (i : ℕ) (outcomes : List WorkOutcome) (o : ℕ) (x
     (k : ℕ) × (slice_get outcomes k ≡ Some x) × (outcome_among (with_nodes_from i outcomes) o ≡ Some (with_node (i + k) x))
 found-with_nodes_from i [] o x h = absurd (none-some x h)
 found-with_nodes_from i (y ∷ ys) o x h = ⊎_elim
-    (λ k. (0, ap (λ z. Some z) k.1,
+    (λ k. (
+      0,
+      ap (λ z. Some z) k.1,
       cond-true (y.number == o) (Some (with_node i y)) (outcome_among (with_nodes_from (i + 1) ys) o) (eq-eqb y.number o k.0)
-      ∙ (ap (λ j. Some (with_node j y)) (sym (add-zero i)) ∙ ap (λ z. Some (with_node (i + 0) z)) k.1)))
+          ∙ (ap (λ j. Some (with_node j y)) (sym (add-zero i)) ∙ ap (λ z. Some (with_node (i + 0) z)) k.1),
+    ))
     (λ k.
-      let q = found-with_nodes_from (i + 1) ys o x k.1 in
-      let e : i + 1 + q.0 ≡ i + suc q.0 = omega arith in
-      (suc q.0, q.1, outcome_among_later (with_node i y) (with_nodes_from (i + 1) ys) o k.0 ∙ (q.2 ∙ ap (λ j. Some (with_node j x)) e)))
+    let q = found-with_nodes_from (i + 1) ys o x k.1 in
+    let e : i + 1 + q.0 ≡ i + suc q.0 = omega arith in
+    (suc q.0, q.1, outcome_among_later (with_node i y) (with_nodes_from (i + 1) ys) o k.0 ∙ (q.2 ∙ ap (λ j. Some (with_node j x)) e)))
     (found_cases y ys o x h)
 
 -- ---- atoms that are left

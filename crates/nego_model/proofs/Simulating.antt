@@ -12,6 +12,33 @@ use Rattle.nego_model.proofs.Steps.{after-some, after-outcome, after_from, leave
 use Rattle.nego_model.proofs.Reached.{Leads-itself, Leads_one, Leads_through, Reaches-itself, Reaches_one, Reaches_through, reached_by_last}
 use Rattle.nego_model.proofs.Ways.{runs_pass_all_at_last, Runs-from_all_at_last, sound_leads, Sound_from_leads}
 
+-- ---- one atom in two negotiations
+
+-- next atoms that agree for the parties move a marking alike
+pub moved-agree : (a : ℕ) (parties : List ℕ) (next next' : ℕ → List ℕ) (marking : PlainMarking) → ((b : ℕ) → IsTrue (is_in b parties) → next b ≡ next' b) →
+    moved a parties next marking ≡ moved a parties next' marking
+moved-agree a parties next next' [] h = refl
+moved-agree a parties next next' (here ∷ rest) h = ap₂ ◌∷◌ (first (is_in a parties) refl) (moved-agree (a + 1) parties next next' rest h)
+  where
+    first : (t : Bool) → is_in a parties ≡ t → cond t (next a) here ≡ cond t (next' a) here
+    first true e = h a e
+    first false e = refl
+
+module _ (one two : Negotiation) where
+  -- an atom that has the same parties in both is enabled in the other where it is in the one
+  pub as-enabled : (marking : PlainMarking) (n : ℕ) → IsTrue (enables one marking n) → IsTrue (is_in n two.atoms) → one.parties n ≡ two.parties n → IsTrue (enables two marking n)
+  as-enabled marking n h there same =
+      enables_from two marking n there (λ a k. enables-party one marking n a h (subst (λ xs. IsTrue (is_in a xs)) (sym same) k))
+
+  -- where it has an outcome in the one and an outcome in the other that send its parties to the same atoms, what the one
+  -- leaves the other leaves
+  pub as-after : (from to : PlainMarking) (n o p : ℕ) → after one from (n, o) ≡ Some to → IsTrue (is_in n two.atoms) → one.parties n ≡ two.parties n → IsTrue (is_in p (two.outcomes n)) →
+      ((a : ℕ) → IsTrue (is_in a (one.parties n)) → one.next o a ≡ two.next p a) → after two from (n, p) ≡ Some to
+  as-after from to n o p h there same k next =
+      let s = after-some one from (n, o) to h in
+      after_from two from (n, p) (as-enabled from n s.0 there same) k
+      ∙ ap (λ m. Some m) (ap (λ xs. moved 0 xs (two.next p) from) (sym same) ∙ (sym (moved-agree 0 (one.parties n) (one.next o) (two.next p) from next) ∙ s.2))
+
 -- ---- negotiations with the same atoms
 
 -- The same agents, atoms, parties of each atom, first and last atom.
@@ -31,16 +58,6 @@ SameAtoms-turned one two same = record {
   last = sym same.last;
 }
 
--- next atoms that agree for the parties move a marking alike
-pub moved-agree : (a : ℕ) (parties : List ℕ) (next next' : ℕ → List ℕ) (marking : PlainMarking) → ((b : ℕ) → IsTrue (is_in b parties) → next b ≡ next' b) →
-    moved a parties next marking ≡ moved a parties next' marking
-moved-agree a parties next next' [] h = refl
-moved-agree a parties next next' (here ∷ rest) h = ap₂ ◌∷◌ (first (is_in a parties) refl) (moved-agree (a + 1) parties next next' rest h)
-  where
-    first : (t : Bool) → is_in a parties ≡ t → cond t (next a) here ≡ cond t (next' a) here
-    first true e = h a e
-    first false e = refl
-
 module _ (one two : Negotiation) (same : SameAtoms one two) where
   -- an atom of the one is an atom of the other
   pub same-atom : (n : ℕ) → IsTrue (is_in n one.atoms) → IsTrue (is_in n two.atoms)
@@ -59,18 +76,15 @@ module _ (one two : Negotiation) (same : SameAtoms one two) where
   pub same-enables : (marking : PlainMarking) (n : ℕ) → IsTrue (enables one marking n) → IsTrue (enables two marking n)
   same-enables marking n h =
       let there = enables-atom one marking n h in
-      enables_from two marking n (same-atom n there)
-      (λ a k. enables-party one marking n a h (subst (λ xs. IsTrue (is_in a xs)) (sym (same.parties n there)) k))
+      as-enabled one two marking n h (same-atom n there) (same.parties n there)
 
   -- where an outcome of the one and an outcome of the other send the parties of their atom to the same atoms, what the
   -- one leaves the other leaves
   pub same-after : (from to : PlainMarking) (n o p : ℕ) → after one from (n, o) ≡ Some to → IsTrue (is_in p (two.outcomes n)) →
       ((a : ℕ) → IsTrue (is_in a (one.parties n)) → one.next o a ≡ two.next p a) → after two from (n, p) ≡ Some to
   same-after from to n o p h k next =
-      let s = after-some one from (n, o) to h in
-      let there = enables-atom one from n s.0 in
-      after_from two from (n, p) (same-enables from n s.0) k
-      ∙ ap (λ m. Some m) (ap (λ xs. moved 0 xs (two.next p) from) (sym (same.parties n there)) ∙ (sym (moved-agree 0 (one.parties n) (one.next o) (two.next p) from next) ∙ s.2))
+      let there = (after-outcome one from (n, o) to h).0 in
+      as-after one two from to n o p h (same-atom n there) (same.parties n there) k next
 
 -- ---- what one occurrence shows, shown of all that is reached
 
@@ -150,22 +164,29 @@ Sound-same one two P Q same p q lasts lasts' led led' sound = Sound_from_leads t
         (Leads-in one two P lasts led m (final_marking one) (Lasts-led one P lasts (opening_marking one) m p k) (sound_leads one sound m k))
 
 -- Of two negotiations of the same atoms, what the complete runs of the one with a final outcome relate, the complete runs
--- of the other with it relate, where what an occurrence of the one reaches, occurrences of the other reach.
-pub Runs-same : (one : Negotiation) (relation : Relation) (two : Negotiation) (relation' : Relation) (P : PlainMarking → Type 0) → SameAtoms one two → IsNegotiation one → IsDeterministic one → IsNegotiation two →
-    P (opening_marking one) → Lasts one P → StepsReached one relation two relation' P → (f : ℕ) → (IsOutcome one one.last f → IsTrue (is_in f (two.outcomes two.last))) →
-    ((d e : ℕ) → relation f d e → relation' f d e) → (d e : ℕ) → Runs one relation f d e → Runs two relation' f d e
-Runs-same one relation two relation' P same ok single ok' p lasts reached f final related d e h =
+-- of the other with it relate, where each way to everyone at the last atom is one in the other.
+pub Runs-from_ways : (one : Negotiation) (relation : Relation) (two : Negotiation) (relation' : Relation) → SameAtoms one two → IsNegotiation one → IsDeterministic one → IsNegotiation two → (f : ℕ) →
+    (IsOutcome one one.last f → IsTrue (is_in f (two.outcomes two.last))) → ((d e : ℕ) → relation f d e → relation' f d e) →
+    ((d c : ℕ) → Reaches one relation (opening_marking one) d (all_at_last one) c → Reaches two relation' (opening_marking one) d (all_at_last one) c) → (d e : ℕ) → Runs one relation f d e → Runs two relation' f d e
+Runs-from_ways one relation two relation' same ok single ok' f final related ways d e h =
     Runs-from_all_at_last two relation' f d e ok' (record {
       before = k.before;
       way = subst (λ to. Reaches two relation' (opening_marking two) d to k.before) (same-all_at_last one two same)
-          (subst (λ from. Reaches two relation' from d (all_at_last one) k.before) (same-opening one two same)
-          (Reaches-in one relation two relation' P lasts reached (opening_marking one) d (all_at_last one) k.before p k.way));
+          (subst (λ from. Reaches two relation' from d (all_at_last one) k.before) (same-opening one two same) (ways d k.before k.way));
       last = related k.before e k.last;
       outcome = (ok'.last_there, final k.outcome);
     })
   where
     k : EndsAtLast one relation f d e
     k = runs_pass_all_at_last one relation f d e ok single h
+
+-- The same where what an occurrence of the one reaches, occurrences of the other reach.
+pub Runs-same : (one : Negotiation) (relation : Relation) (two : Negotiation) (relation' : Relation) (P : PlainMarking → Type 0) → SameAtoms one two → IsNegotiation one → IsDeterministic one → IsNegotiation two →
+    P (opening_marking one) → Lasts one P → StepsReached one relation two relation' P → (f : ℕ) → (IsOutcome one one.last f → IsTrue (is_in f (two.outcomes two.last))) →
+    ((d e : ℕ) → relation f d e → relation' f d e) → (d e : ℕ) → Runs one relation f d e → Runs two relation' f d e
+Runs-same one relation two relation' P same ok single ok' p lasts reached f final related =
+    Runs-from_ways one relation two relation' same ok single ok' f final related
+    (λ d c. Reaches-in one relation two relation' P lasts reached (opening_marking one) d (all_at_last one) c p)
 
 -- ---- negotiations that are the same but for what lies past their atoms and outcomes
 
@@ -208,6 +229,6 @@ pub Runs-alike : (one : Negotiation) (relation : Relation) (two : Negotiation) (
 Runs-alike one relation two relation' same ok single ok' related f d e final =
     Runs-same one relation two relation' Anywhere same.form ok single ok' tt (λ from to step p h. tt)
     (λ from to c b step p h r.
-      Reaches_one two relation' from c to b step (same-step one two same from to step h) (related step.0 step.1 c b (after-outcome one from step to h) r))
+    Reaches_one two relation' from c to b step (same-step one two same from to step h) (related step.0 step.1 c b (after-outcome one from step to h) r))
     f (λ h. subst (λ n. IsTrue (is_in f (two.outcomes n))) same.form.last (same-outcome one two same one.last f h).1)
     (λ c b r. related one.last f c b (ok.last_there, final) r) d e

@@ -1,19 +1,19 @@
 -- A closing keeps soundness and what the runs relate: before it, the one outcome of the first atom sends everyone to the
 -- last atom; behind it, everyone is there from the beginning.
-use Rattle.std.proofs.Common.{◌≡◌, ◌≢◌, ◌⊎◌, ◌↔◌, inl, inr, ⊎_elim, ℕ, ◌+◌, ◌<◌, Bool, true, false, not, ◌==◌, ◌&&◌, List, [], ◌∷◌, ◌++◌, length, map, slice_get, slice_index_or, Option, Some, None, IsTrue, refl, sym, subst, ap, ◌∙◌, arith, eq-eqb, eqb-true}
+use Rattle.std.proofs.Common.{◌≡◌, ◌≢◌, ◌⊎◌, ◌↔◌, inl, inr, ⊎_elim, ℕ, ◌+◌, ◌<◌, true, not, ◌==◌, ◌&&◌, List, [], ◌∷◌, length, slice_get, slice_index_or, Option, Some, None, IsTrue, refl, sym, subst, ap, ◌∙◌, arith, eq-eqb, eqb-true}
 use Rattle.std.proofs.lemmas.Bool.{and_parts, eqb-false, not-true, false≢true}
 use Rattle.std.proofs.lemmas.Option.{same_Some, slice_get_within}
 use Rattle.std.proofs.lemmas.List.{length-append, length-map}
-use Rattle.std.proofs.lemmas.List.Elements.{All-nil, All-cons, All-head, All-weaker, All-filter, filter_passes}
-use Rattle.std.specs.List.{All, filter, range_with_len}
+use Rattle.std.proofs.lemmas.List.Elements.{All-nil, All-cons, All-head, All-filter, filter_passes}
+use Rattle.std.specs.List.{All, range_with_len}
 use Rattle.std.specs.Option.{option_to_list}
 use Rattle.nego_base.specs.Members.{is_in, all_in, IsRising}
 use Rattle.nego_base.proofs.Members.{all_in-member, all_in-members}
 use Rattle.nego_model.specs.Negotiation.{Negotiation, IsNegotiation, IsRising as Rises}
 use Rattle.nego_model.specs.Occurring.{PlainMarking, Occurrence, enables, after, opening_marking, final_marking, IsSound}
-use Rattle.nego_model.specs.Joining.{RelationTest, By, Runs}
+use Rattle.nego_model.specs.Joining.{RelationTest, By}
 use Rattle.nego_model.specs.Expression.{PlainNode, Then, IsNodeList, Means, EachBase, children}
-use Rattle.nego_model.specs.Reaching.{all_at_last, Leads, Reaches, EndsAtLast}
+use Rattle.nego_model.specs.Reaching.{all_at_last, Leads, Reaches}
 use Rattle.nego_model.proofs.Members.{is_in_first, is_in_cases, is_in_none, is_in_single, all_at, some_member}
 use Rattle.nego_model.proofs.Rising.{is_in-filter, is_in_filter, is_in_range, rising-filter}
 use Rattle.nego_model.proofs.Steps.{after-outcome}
@@ -22,13 +22,13 @@ use Rattle.nego_model.proofs.Reached.{Leads-itself, Leads_one, Leads_through, Re
 use Rattle.nego_model.proofs.Ways.{after_all_at_last, runs_pass_all_at_last, Runs-from_all_at_last, Sound_from_leads}
 use Rattle.nego_model.proofs.Gathered.{all_ready-enables, after_gathered, after_nothing_ready, after_all_sent, all_ready-same}
 use Rattle.nego_model.proofs.Simulating.{Lasts, Lasts-led}
-use Rattle.nego_expr.specs.Work.{WorkAtom, WorkOutcome, PlainWork, outcome_at, work_parties, work_outcomes, sent_to, negotiation_of_work, ByWork, IsWork}
-use Rattle.nego_expr.specs.Use.{same_target, sends_all, one_sends_all, outcomes_at, nodes_then, with_nodes_from, can_close, closed_of, closed_by, closed}
+use Rattle.nego_expr.specs.Work.{WorkOutcome, PlainWork, outcome_at, work_parties, work_outcomes, sent_to, negotiation_of_work, ByWork, IsWork}
+use Rattle.nego_expr.specs.Use.{same_target, one_sends_all, outcomes_at, nodes_then, closed_of, closed_by, closed}
 use Rattle.nego_expr.specs.Keeps.{Keeps}
 use Rattle.nego_expr.proofs.Alive.{each_found, ByWork-found}
 use Rattle.nego_expr.proofs.OneAtomLeft.{one_atom_left_sound, one_step_runs}
 use Rattle.nego_expr.proofs.AddedNodes.{IsNodeList-append, EachBase-added, ByWork-added, length-nodes_then, node_then, nodes_then-older}
-use Rattle.nego_expr.proofs.WorkEdits.{numbers_of, with_node, All-at_place, All-found, found-number, found-passing, rises-passing, filter-filter, numbers-with_nodes_from, passing-with_nodes_from, All-with_nodes_from, found-with_nodes_from, atoms-filter, parties-filter}
+use Rattle.nego_expr.proofs.WorkEdits.{numbers_of, with_node, All-at_place, found-passing, rises-passing, filter-filter, numbers-with_nodes_from, passing-with_nodes_from, All-with_nodes_from, found-with_nodes_from, atoms-filter, parties-filter}
 use Rattle.nego_expr.proofs.WorkForm.{OutcomeFits, AtomsFit, outcome_found, next-found, work-deterministic, negotiation_from_fits, fits_from_work}
 use Rattle.nego_shortcut.specs.Law.{ClosingKeeps}
 
@@ -47,8 +47,12 @@ target_is (Some m) n h = ap Some (eqb-true m n h)
 -- what the guard says of the first atom's outcomes
 one_sends : (count n : ℕ) (outcomes : List WorkOutcome) → IsTrue (one_sends_all count n outcomes) → (x : WorkOutcome) × (outcomes ≡ x ∷ []) × ((a : ℕ) → a < count → sent_to x a ≡ Some n)
 one_sends count n [] h = absurd (false≢true h)
-one_sends count n (x ∷ []) h = (x, refl, λ a l.
-    target_is (sent_to x a) n (all_at (λ b. same_target (sent_to x b) (Some n)) (range_with_len 0 count) a h (is_in_range 0 count a (omega arith) (omega (arith, l)))))
+one_sends count n (x ∷ []) h = (
+  x,
+  refl,
+  λ a l.
+      target_is (sent_to x a) n (all_at (λ b. same_target (sent_to x b) (Some n)) (range_with_len 0 count) a h (is_in_range 0 count a (omega arith) (omega (arith, l)))),
+)
 one_sends count n (x ∷ y ∷ outcomes) h = absurd (false≢true h)
 
 -- of two numbers in a list of two, which differ, one is any third
