@@ -1,6 +1,9 @@
 pub mod Alive
 pub mod OneAtomLeft
 pub mod Finished
+pub mod WorkEdits
+pub mod AddedNodes
+pub mod WorkForm
 pub mod BaseNodes
 pub mod FreshLists
 pub mod FreshWorks

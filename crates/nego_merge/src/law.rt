@@ -4,5 +4,4 @@ ghost use Rattle.nego_merge.specs.Law.{MergingKeeps};
 /// leaves a work that is sound exactly where this one is, and whose complete runs relate the same data.
 pub fn merging_keeps()
     ensures { MergingKeeps }
-{
-}
+{}

@@ -6,6 +6,8 @@ pub mod CompleteRuns
 pub mod Expressions
 pub mod Proper
 pub mod Ways
+pub mod Gathered
+pub mod Simulating
 pub mod Commuting
 pub mod Acting
 pub mod Alike

@@ -4,5 +4,4 @@ ghost use Rattle.nego_shortcut.specs.Law.{ClosingKeeps};
 /// sound exactly where this one is, and whose complete runs relate the same data.
 pub fn closing_keeps()
     ensures { ClosingKeeps }
-{
-}
+{}

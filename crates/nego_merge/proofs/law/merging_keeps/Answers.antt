@@ -1,0 +1,5 @@
+use Rattle.nego_merge.proofs.Merging.{merging}
+use Rattle.nego_merge.proofs.law.merging_keeps.Goals as goal
+
+pub returns : goal.returns
+returns c = merging

@@ -1,0 +1,5 @@
+use Rattle.nego_shortcut.proofs.Closing.{closing}
+use Rattle.nego_shortcut.proofs.law.closing_keeps.Goals as goal
+
+pub returns : goal.returns
+returns c = closing
