@@ -1,4 +1,6 @@
-ghost use Rattle.std.specs.Prelude.{◌≡◌, ◌==◌, ◌+◌, ◌-◌, ◌<◌, ◌≤◌, [], ◌∷◌, ◌++◌, length, take, IfOk, slice_set};
+ghost use Rattle.std.specs.Prelude.{◌≡◌, ◌==◌, ◌+◌, ◌-◌, ◌<◌, ◌≤◌, [], ◌∷◌, ◌++◌, length, take, max, OnOk, OnErr, IfOk, slice_get, slice_set, remove};
+ghost use Rattle.std.specs.Fn.{CalledAt};
+ghost use Rattle.std.specs.List.Retain.{IsFiltered};
 
 use crate::{Memory, Seq};
 use std::alloc::Global;
@@ -103,6 +105,43 @@ impl<T> Reserved<T> {
         ensures room { self.new.room ≡ self.old.room }
     {
         self.items[i] = x;
+    }
+
+    /// Makes room for at least so many more items. On refusal the list is as before.
+    pub fn reserve(&mut self, room: usize) -> Result<(), Memory>
+        ensures items { self.new.items ≡ self.old.items }
+        ensures ok { OnOk result (self.new.room ≡ max self.old.room room) }
+        ensures err { OnErr result (self.new.room ≡ self.old.room) }
+    {
+        if self.room < room {
+            self.items.reserve(room)?;
+            self.room = room;
+        }
+        Ok(())
+    }
+
+    /// Takes the item at a place. The items behind it move down by one, and a place is room again.
+    pub fn remove(&mut self, i: usize) -> T
+        requires { i < length self.old.items }
+        ensures value { slice_get self.old.items i ≡ Some result }
+        ensures items { self.new.items ≡ remove self.old.items i }
+        ensures room { self.new.room ≡ self.old.room + 1 }
+    {
+        self.room += 1;
+        self.items.remove(i)
+    }
+
+    /// Keeps the items that pass the test, and drops the others, whose places are room again.
+    pub fn retain<F: FnMut(&T) -> bool>(&mut self, test: F)
+    where
+        T: Drop,
+        requires { F.IsAlwaysCallable test }
+        ensures items { IsFiltered (CalledAt F.FnMut) test self.old.items self.new.items }
+        ensures room { length self.new.items + self.new.room ≡ length self.old.items + self.old.room }
+    {
+        let before = self.items.len();
+        self.items.retain(test);
+        self.room += before - self.items.len();
     }
 
     /// Keeps the first items and drops the others, whose places are room again.
