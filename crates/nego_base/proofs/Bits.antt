@@ -5,7 +5,8 @@ use Rattle.std.specs.List.{range_with_len}
 use Rattle.std.specs.Int.{bit_at, bit_not, Width, trailing_zeros}
 use mir.Val.{bits}
 use Rattle.std.proofs.lemmas.Bool.{eqb-true, eqb-false, eq-eqb, ne_eqb, cases_eq, cases_Bool, lt-ltb, ltb-true, false≢true, and_parts, and_from}
-use Rattle.std.proofs.lemmas.Bool.Decides.{nat_tests}
+use Rattle.std.proofs.lemmas.Bool.Decides.{nat_tests, same_from_decides, Decides-like, Decides-eqb}
+use Rattle.std.specs.Cmp.Lexicographic.{pointwise, bytes_decides}
 use Rattle.std.proofs.lemmas.List.{length-append}
 use Rattle.std.proofs.lemmas.Nat.{and_le_l, ones_cat, ones_le_self, pow_pos}
 use Rattle.std.specs.Int.Count.{ones-ones}
@@ -13,7 +14,7 @@ use Rattle.std.proofs.Math.Nat.{mod-eq_of_lt, lt_of_le_of_lt, mod-lt, add_comm}
 use Rattle.std.proofs.lemmas.Nat.Bits.{bit_at-lt, bit_at_and, bit_at-zero, shr_and_one, bit_at-trailing_zeros, bit_at_set_same, bit_at_set_other, bit_at_clear_same, bit_at_clear_other}
 use Rattle.nego_base.specs.Members.{is_in, all_in, any_in, with_member, without_member, IsRising, IsRisingBelow}
 use Rattle.nego_base.specs.Bits.{members, members-suc, members-zero, mod-suc_bit, word_of, word_of-members, word_of-nil}
-use Rattle.nego_base.proofs.Members.{is_in-range, rises-range, is_in-filter, is_in-with, is_in-without, rises-filter, All-members, same_below, with-rises, without-rises, all_in-member, all_in-members, any_in-member, any_in-none, head_from_least, nil_from_none}
+use Rattle.nego_base.proofs.Members.{is_in-range, rises-range, is_in-filter, is_in-with, is_in-without, rises-filter, All-members, same_below, with-rises, without-rises, all_in-member, all_in-members, any_in-member, any_in-none, head_from_least, first_and_rest, nil_from_none}
 
 -- ---- tests
 
@@ -164,6 +165,12 @@ members-least w n p h =
     none : (y : ℕ) → bit_at n y ≡ 0 → (ltb y (bits w) && eqb (bit_at n y) 1) ≡ false
     none y e = rw e (never (ltb y (bits w)))
 
+pub members-least_rest : (w : Width) (n : ℕ) → 0 < n → n < 2 ^ bits w → members (bits w) n ≡ trailing_zeros w n ∷ without_member (trailing_zeros w n) (members (bits w) n)
+members-least_rest w n p h = first_and_rest (bits w) (trailing_zeros w n) (members (bits w) n) (members-rise (bits w) n) (members-least w n p h)
+
+pub least_below : (w : Width) (n : ℕ) → 0 < n → n < 2 ^ bits w → trailing_zeros w n < bits w
+least_below w n p h = (bit_at-trailing_zeros w n p h).0
+
 -- the number of digits of a bit, as the length of the list of an item where it is set
 ones_of_bit : (b x : ℕ) → b < 2 → count_ones b ≡ length (if eqb b 1 then x ∷ [] else [])
 ones_of_bit zero x h = let z = ones_le_self 0 in omega (arith, z)
@@ -187,3 +194,10 @@ members-count_mod (suc width) n =
 -- `count_ones`
 pub members-count : (width n : ℕ) → n < 2 ^ width → count_ones n ≡ length (members width n)
 members-count width n h = ap count_ones (sym (mod-eq_of_lt h)) ∙ members-count_mod width n
+
+-- the test `a == b`
+pub members-same : (width a b : ℕ) → a < 2 ^ width → b < 2 ^ width → eqb a b ≡ pointwise eqb (members width a) (members width b)
+members-same width a b p q =
+    same_from_decides (eqb a b) (pointwise eqb (members width a) (members width b))
+    (Decides-like (eqb a b) (λ e. ap (members width) e) (same_from_members width a b p q) (Decides-eqb a b))
+    (bytes_decides (members width a) (members width b))

@@ -397,3 +397,16 @@ same_below width xs ys r s h = same_rising 0 xs ys r.rising s.rising (λ x. at_n
 -- a set of numbers below a width has no more members than the width
 pub length-below : (width : ℕ) (xs : List ℕ) → IsRisingBelow width xs → length xs ≤ width
 length-below width xs s = let t = length-rising 0 width xs s.rising s.below (omega arith) in omega (arith, t)
+
+-- a rising list is its first number and the others
+pub first_and_rest : (width x : ℕ) (xs : List ℕ) → IsRisingBelow width xs → slice_get xs 0 ≡ Some x → xs ≡ x ∷ without_member x xs
+first_and_rest width x [] s e = cc
+first_and_rest width x (y ∷ ys) s e = at_head (same_item e)
+  where
+    same_item : slice_get (y ∷ ys) 0 ≡ Some x → y ≡ x
+    same_item q = cc
+
+    at_head : y ≡ x → y ∷ ys ≡ x ∷ without_member x (y ∷ ys)
+    at_head q =
+        let P : ℕ → Type 0 = λ z. y ∷ ys ≡ z ∷ without_member z (y ∷ ys) in
+        subst P q (ap (λ zs. y ∷ zs) (sym (without-head y ys s.rising.1)))

@@ -3,4 +3,6 @@ pub mod Lends
 pub mod Lines
 pub mod Members
 pub mod Name
+pub mod Options
+pub mod Results
 pub mod Room

@@ -1,4 +1,4 @@
-ghost use Rattle.std.specs.Prelude.{◌≡◌, ◌<◌, [], length, slice_get, Some, MatchOption};
+ghost use Rattle.std.specs.Prelude.{◌≡◌, ◌<◌, [], ◌∷◌, length, slice_get, Some, IfSome, MatchOption};
 ghost use Rattle.nego_base.specs.Members.{is_in, all_in, any_in, with_member, without_member, IsRisingBelow};
 
 use crate::AtomId;
@@ -24,6 +24,26 @@ impl Model for AtomSet {
     ghost inverse = { λ xs. record { bits = word_of xs } };
 
     ghost inverse_ok = { λ a h. ap (λ (n : ℕ). record { bits = n }) (word_of-members 64 a.bits h) };
+}
+
+impl PartialEq for AtomSet {
+    ghost use Rattle.std.specs.Prelude.{nat_eq};
+    ghost use Rattle.std.specs.Cmp.{partial_equiv_from_equiv};
+    ghost use Rattle.std.specs.Cmp.Lexicographic.{pointwise, nat_list_eq_equiv};
+
+    ghost eq = { pointwise nat_eq };
+
+    ghost laws = { partial_equiv_from_equiv nat_list_eq_equiv };
+
+    fn eq(&self, other: &AtomSet) -> bool {
+        self.bits == other.bits
+    }
+}
+
+impl Eq for AtomSet {
+    ghost use Rattle.std.specs.Cmp.Lexicographic.{nat_list_eq_equiv};
+
+    ghost laws = { nat_list_eq_equiv };
 }
 
 impl AtomSet {
@@ -89,6 +109,8 @@ impl AtomSet {
     /// The member of the least number, where there is a member.
     pub fn least(self) -> Option<AtomId>
         ensures value { MatchOption result (self ≡ []) (λ x. slice_get self 0 ≡ Some x.0) }
+        ensures rest { IfSome result (λ x. self ≡ x.0 ∷ without_member x.0 self) }
+        ensures bound { IfSome result (λ x. x.0 < 64) }
         ensures members { IsRisingBelow 64 self }
     {
         if self.bits == 0 {

@@ -10,6 +10,7 @@ mod name;
 mod op;
 mod reserved;
 mod seq;
+mod steps;
 
 pub use agent_set::AgentSet;
 pub use atom_set::AtomSet;
@@ -19,3 +20,4 @@ pub use name::is_name;
 pub use op::Op;
 pub use reserved::Reserved;
 pub use seq::{Seq, Text};
+pub use steps::Steps;

@@ -1,5 +1,5 @@
 -- Expressions over outcomes, and the relation that they mean.
-use Rattle.std.specs.Prelude.{◌≡◌, ◌⊎◌, ℕ, ◌<◌, ◌==◌, List, [], ◌∷◌, reverse, length, slice_get, Some, All, MatchBool}
+use Rattle.std.specs.Prelude.{◌≡◌, ◌⊎◌, ℕ, ◌<◌, ◌==◌, List, [], ◌∷◌, reverse, length, slice_get, Some, All, MatchBool, ⊤}
 use Rattle.nego_model.specs.Joining.{Relation, RelationTest, By}
 
 -- a node of an expression: an outcome, or one or two nodes of smaller numbers
@@ -44,3 +44,19 @@ Means base nodes i d e = MeansAmong base (reverse nodes) i d e
 -- what outcomes do whose expressions are these nodes, over a test for the outcomes under them
 abbrev pub ByNodes : RelationTest → List PlainNode → (ℕ → ℕ) → Relation
 ByNodes test nodes node_of o d e = Means (By test) nodes (node_of o) d e
+
+-- Each outcome under a node has P, where `older` says so of the nodes before it.
+abbrev pub NodeBases : (ℕ → Type 0) → (ℕ → Type 0) → PlainNode → Type 0
+NodeBases P older (Base o) = P o
+NodeBases P older (Join x y) = older x × older y
+NodeBases P older (Then x y) = older x × older y
+NodeBases P older (Star x) = older x
+
+-- Each outcome under node i has P, of nodes of which the newest is first.
+abbrev pub BasesAmong : (ℕ → Type 0) → List PlainNode → ℕ → Type 0
+BasesAmong P [] i = ⊤
+BasesAmong P (node ∷ older) i = MatchBool (i == length older) (NodeBases P (BasesAmong P older) node) (BasesAmong P older i)
+
+-- Each outcome under node i has P, of nodes in their order.
+abbrev pub EachBase : (ℕ → Type 0) → List PlainNode → ℕ → Type 0
+EachBase P nodes i = BasesAmong P (reverse nodes) i

@@ -1,8 +1,9 @@
 -- Laws over the definitions, each proved as the clause of a public function.
 use Rattle.std.specs.Prelude.{◌↔◌, ℕ, ◌<◌, List, [], ◌∷◌, ◌++◌, length}
-use Rattle.nego_model.specs.Negotiation.{Negotiation, IsNegotiation}
+use Rattle.nego_model.specs.Negotiation.{Negotiation, IsNegotiation, IsDeterministic}
 use Rattle.nego_model.specs.Occurring.{Occurrence, IsComplete}
-use Rattle.nego_model.specs.Joining.{RelationTest, By, Joins, EndsWith}
+use Rattle.nego_model.specs.Joining.{RelationTest, By, Joins, EndsWith, Runs}
+use Rattle.nego_model.specs.Reaching.{EndsAtLast}
 use Rattle.nego_model.specs.Expression.{PlainNode, Means, ByNodes}
 
 -- A complete run isn't empty, and its last entry is of the last atom.
@@ -24,3 +25,13 @@ ExpressionsJoinThroughBetween = (test : RelationTest) (nodes : List PlainNode) (
 abbrev pub OlderNodesKeepTheirMeaning : Type 0
 OlderNodesKeepTheirMeaning = (test : RelationTest) (nodes : List PlainNode) (node : PlainNode) (i d e : ℕ) → i < length nodes →
     Means (By test) (nodes ++ node ∷ []) i d e ↔ Means (By test) nodes i d e
+
+-- In a deterministic negotiation a complete run is a way to everyone at the last atom, and one outcome of it.
+abbrev pub CompleteRunsPassEveryoneAtTheLastAtom : Type 0
+CompleteRunsPassEveryoneAtTheLastAtom = (nego : Negotiation) (test : RelationTest) (f d e : ℕ) → IsNegotiation nego → IsDeterministic nego →
+    Runs nego (By test) f d e ↔ EndsAtLast nego (By test) f d e
+
+-- The same where the outcomes' relations are the meanings of expressions.
+abbrev pub CompleteRunsOfExpressionsPassEveryoneAtTheLastAtom : Type 0
+CompleteRunsOfExpressionsPassEveryoneAtTheLastAtom = (nego : Negotiation) (test : RelationTest) (nodes : List PlainNode) (node_of : ℕ → ℕ) (f d e : ℕ) → IsNegotiation nego → IsDeterministic nego →
+    Runs nego (ByNodes test nodes node_of) f d e ↔ EndsAtLast nego (ByNodes test nodes node_of) f d e

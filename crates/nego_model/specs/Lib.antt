@@ -1,6 +1,7 @@
 pub mod Negotiation
 pub mod Occurring
 pub mod Joining
+pub mod Reaching
 pub mod Locality
 pub mod Expression
 pub mod Diagram

@@ -1,6 +1,6 @@
 use Rattle.std.specs.Int.{w16}
 use Rattle.std.proofs.Common.{arith, sym, ap, ◌∙◌}
-use Rattle.nego_base.proofs.Bits.{members-least, members-none, members-rise}
+use Rattle.nego_base.proofs.Bits.{members-least, members-least_rest, members-none, members-rise, least_below}
 use Rattle.nego_base.specs.Bits.{members}
 use Rattle.nego_base.proofs.agent_set.AgentSet.least.Goals as goal
 
@@ -12,6 +12,12 @@ returns-then-self-eq0-clause-members c = rw (← c.self.view_is) (members-rise 1
 
 pub returns-clause-value : goal.returns-clause-value
 returns-clause-value c = rw (← c.self.view_is) (members-least w16 c.self.inside.bits (omega arith) c.self.invariant)
+
+pub returns-clause-rest : goal.returns-clause-rest
+returns-clause-rest c = rw (← c.self.view_is) (members-least_rest w16 c.self.inside.bits (omega arith) c.self.invariant)
+
+pub returns-clause-bound : goal.returns-clause-bound
+returns-clause-bound c = least_below w16 c.self.inside.bits (omega arith) c.self.invariant
 
 pub returns-clause-members : goal.returns-clause-members
 returns-clause-members c = rw (← c.self.view_is) (members-rise 16 c.self.inside.bits)

@@ -1,0 +1,14 @@
+-- What a use of a rule keeps.
+use Rattle.std.specs.Prelude.{◌≡◌, ◌↔◌, ℕ, IsTrue}
+use Rattle.nego_base.specs.Members.{is_in}
+use Rattle.nego_model.specs.Occurring.{IsSound}
+use Rattle.nego_model.specs.Joining.{RelationTest, Runs}
+use Rattle.nego_expr.specs.Work.{PlainWork, negotiation_of_work, work_outcomes, ByWork}
+
+-- The new work is sound exactly where the old one is, has the same final outcomes, and its complete runs with each
+-- of them relate what the old one's do, whatever the test for the outcomes that were read.
+pub record Keeps (old new : PlainWork) : Type 0 where
+  pub sound : IsSound (negotiation_of_work old) ↔ IsSound (negotiation_of_work new)
+  pub finals : work_outcomes old old.last ≡ work_outcomes new new.last
+  pub runs : (test : RelationTest) (f d e : ℕ) → IsTrue (is_in f (work_outcomes old old.last)) →
+      Runs (negotiation_of_work old) (ByWork test old) f d e ↔ Runs (negotiation_of_work new) (ByWork test new) f d e
