@@ -1,7 +1,11 @@
-//! Lists compare item by item.
-ghost use Rattle.std.specs.Cmp.Lexicographic.{pointwise, lists_per, lists_equiv};
+//! Lists compare, and are hashed, item by item.
+ghost use Rattle.std.specs.Cmp.Lexicographic.{pointwise, slice_cmp, slice_partial_cmp, lists_per, lists_equiv, lists_po, lists_total, lists_agrees, lists_ties};
+ghost use Rattle.std.specs.Hash as fed;
+ghost use Rattle.std.specs.Hash.{items_Alike};
 
 use crate::Seq;
+use std::cmp::Ordering;
+use std::hash::{Hash, Hasher};
 
 impl<T: PartialEq> PartialEq for Seq<T> {
     ghost eq = { λ s t. pointwise T.eq s t };
@@ -15,4 +19,38 @@ impl<T: PartialEq> PartialEq for Seq<T> {
 
 impl<T: Eq> Eq for Seq<T> {
     ghost laws = { lists_equiv T.Eq.laws };
+}
+
+impl<T: PartialOrd> PartialOrd for Seq<T> {
+    ghost partial_cmp = { λ s t. slice_partial_cmp T.partial_cmp s t };
+
+    ghost laws = { lists_po T.PartialOrd.laws };
+
+    fn partial_cmp(&self, other: &Seq<T>) -> Option<Ordering> {
+        self.as_slice().partial_cmp(&other.as_slice())
+    }
+}
+
+impl<T: Ord> Ord for Seq<T> {
+    ghost cmp = { λ s t. slice_cmp T.cmp s t };
+
+    ghost total = { lists_total T.total };
+
+    ghost matches_partial_cmp = { λ s t. lists_agrees T.matches_partial_cmp s t };
+
+    ghost matches_eq = { λ s t. lists_ties T.cmp T.matches_eq s t };
+
+    fn cmp(&self, other: &Seq<T>) -> Ordering {
+        self.as_slice().cmp(&other.as_slice())
+    }
+}
+
+impl<T: Hash> Hash for Seq<T> {
+    ghost hash_input = { λ s. fed.slice T.hash_input s };
+
+    ghost respects_eq = { (items_Alike (record { fed = T.respects_eq })).fed };
+
+    fn hash<H: Hasher>(&self, state: &mut H) {
+        self.as_slice().hash(state);
+    }
 }
