@@ -172,13 +172,21 @@ is_part limit input part left found same here fits rest =
       ends = (here.front, (here.last, (part_lines ∙ here.found_is, here.none, here.ends)));
     }
 
-is_part_by : (limit : ℕ) (input part left : List ℕ) (o : Option (List ℕ)) → part_of input ≡ o → option_map_or (ended limit input) o (unended limit input) ≡ Whole part left → IsPart limit input part left
-is_part_by limit input part left None is h = absurd (no_part limit input part left h)
-is_part_by limit input part left (Some mine) is h =
+whole_by : (limit : ℕ) (input part left : List ℕ) (o : Option (List ℕ)) → part_of input ≡ o → option_map_or (ended limit input) o (unended limit input) ≡ Whole part left → (part_of input ≡ Some part) × (length part ≤ limit) × (drop (length part) input ≡ left)
+whole_by limit input part left None is h = absurd (no_part limit input part left h)
+whole_by limit input part left (Some mine) is h =
     let within = within_part limit input mine part left h in
-    let found = part_is input mine is in
-    is_part limit input part left found.0 (found.1.0 ∙ within.0) found.1.1
-    (omega (arith, within.1, ap length within.0)) (ap (λ p. drop (length p) input) (sym within.0) ∙ within.2)
+    (is ∙ ap Some within.0, omega (arith, within.1, ap length within.0), ap (λ p. drop (length p) input) (sym within.0) ∙ within.2)
+
+-- the part that was read is the input's, and within the limit
+pub whole_is : (limit : ℕ) (input part left : List ℕ) → reading limit input ≡ Whole part left → (part_of input ≡ Some part) × (length part ≤ limit) × (drop (length part) input ≡ left)
+whole_is limit input part left h = whole_by limit input part left (part_of input) refl (sym (answered limit input (part_of input) refl) ∙ h)
+
+is_part_of : (limit : ℕ) (input part left : List ℕ) → reading limit input ≡ Whole part left → IsPart limit input part left
+is_part_of limit input part left h =
+    let whole = whole_is limit input part left h in
+    let found = part_is input part whole.0 in
+    is_part limit input part left found.0 found.1.0 found.1.1 whole.1 whole.2
 
 part_found : (limit : ℕ) (input part left : List ℕ) → IsPart limit input part left → reading limit input ≡ Whole part left
 part_found limit input part left is =
@@ -231,7 +239,7 @@ unended_found limit input line is =
 
 pub parts_are_found : PartsAreFound
 parts_are_found limit input part left =
-    (λ h. is_part_by limit input part left (part_of input) refl (sym (answered limit input (part_of input) refl) ∙ h), part_found limit input part left)
+    (is_part_of limit input part left, part_found limit input part left)
 
 pub past_limit_is_found : PastLimitIsFound
 past_limit_is_found limit input = (

@@ -1,6 +1,7 @@
-ghost use Rattle.std.specs.Prelude.{◌≡◌, ℕ, List, [], ◌∷◌, ◌++◌, true};
+ghost use Rattle.std.specs.Prelude.{◌≡◌, ℕ, ◌+◌, List, [], ◌∷◌, ◌++◌, true};
 ghost use Rattle.std.specs.List.{concat, list_all};
 ghost use Rattle.nego_base.specs.Lines.{lines, words, without_end, is_newline, is_blank, is_word_end};
+ghost use Rattle.nego_io.specs.Answer.{TakesWithin, TakesUpTo};
 ghost use Rattle.nego_io.specs.Laws.{HasNo, PartsAreFound, PastLimitIsFound, UnendedIsFound};
 
 /// What the lines of a text are: they make up the text; each ends with its only newline, but the last may lack one.
@@ -22,6 +23,11 @@ pub fn words_of_a_text()
     ensures parted { (front back : List ℕ) → is_word_end back ≡ true → words (front ++ back) ≡ words front ++ words back }
     ensures blank { (blanks : List ℕ) → list_all is_blank blanks ≡ true → words blanks ≡ [] }
     ensures word { (b : ℕ) (bs : List ℕ) → HasNo is_blank (b ∷ bs) → words (b ∷ bs) ≡ (b ∷ bs) ∷ [] }
+{}
+
+/// How much is taken of an input where its part isn't answered.
+pub fn taken_of_an_input()
+    ensures { (limit : ℕ) (before now : List ℕ) → TakesWithin limit before now → TakesUpTo (limit + 1) before now }
 {}
 
 /// What an input holds for one who takes at most so many bytes of a part: just one of three things.
