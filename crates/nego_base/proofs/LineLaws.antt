@@ -91,6 +91,25 @@ lines_cut b (c ∷ cs) =
       | inr h ↦ (b ∷ next.0, (next.1.0, cut_more b c cs next.0 next.1.0 h next.1.1))
     ]
 
+-- what ends with a newline has a line
+lines_filled : (bs : List ℕ) → (line : List ℕ) × ((others : List (List ℕ)) × (lines (bs ++ 10 ∷ []) ≡ line ∷ others))
+lines_filled [] = (10 ∷ [], ([], refl))
+lines_filled (b ∷ bs) = let next = lines_cut b (bs ++ 10 ∷ []) in (next.0, (lines next.1.0, next.1.1.first))
+
+onto_first_before : (b : ℕ) (ls more : List (List ℕ)) → (line : List ℕ) × ((others : List (List ℕ)) × (ls ≡ line ∷ others)) → onto_first b (ls ++ more) ≡ onto_first b ls ++ more
+onto_first_before b [] more filled = (let e = filled.1.1 in cc)
+onto_first_before b (line ∷ others) more filled = refl
+
+-- where a newline ends the front, the lines of a text are those before and those behind
+pub lines_append : (front back : List ℕ) → lines ((front ++ 10 ∷ []) ++ back) ≡ lines (front ++ 10 ∷ []) ++ lines back
+lines_append [] back = refl
+lines_append (b ∷ bs) back =
+    let next = lines_append bs back in
+    elim (cases_Bool (is_newline b)) [
+      | inl h ↦ cond-true _ _ _ h ∙ (ap (λ ls. (b ∷ []) ∷ ls) next ∙ sym (ap (λ ls. ls ++ lines back) (cond-true _ _ _ h)))
+      | inr h ↦ cond-false _ _ _ h ∙ (ap (onto_first b) next ∙ (onto_first_before b (lines (bs ++ 10 ∷ [])) (lines back) (lines_filled bs) ∙ sym (ap (λ ls. ls ++ lines back) (cond-false _ _ _ h))))
+    ]
+
 nil_left : (xs ys : List (List ℕ)) → xs ++ ys ≡ [] → xs ≡ []
 nil_left [] ys h = refl
 nil_left (x ∷ xs) ys h = cc

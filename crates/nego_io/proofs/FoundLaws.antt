@@ -1,14 +1,14 @@
 -- The first end line of some lines, and what an input holds by it.
-use Rattle.std.proofs.Common.{◌≡◌, ℕ, ◌+◌, ◌<◌, ◌≤◌, true, false, leb, inl, inr, List, [], ◌∷◌, ◌++◌, length, drop, Option, Some, None, option_map, refl, sym, ◌∙◌, ap, arith}
+use Rattle.std.proofs.Common.{◌≡◌, ℕ, ◌+◌, ◌<◌, ◌≤◌, true, false, leb, inl, inr, List, [], ◌∷◌, ◌++◌, length, drop, Option, Some, None, option_map, refl, sym, ◌∙◌, ap, append_assoc, arith}
 use Rattle.std.specs.List.{concat, list_any}
 use Rattle.std.specs.Option.{option_map_or}
 use Rattle.std.proofs.lemmas.Bool.{cases_Bool, false≢true, or_parts, or_from, or_left, or_right, cond-true, cond-false, leb-true, leb-false, le-leb, lt-leb}
-use Rattle.std.proofs.lemmas.List.{length-append, drop_at}
+use Rattle.std.proofs.lemmas.List.{append-nil, length-append, drop_at}
 use Rattle.std.proofs.lemmas.List.Folds.{concat-append, list_any-append}
 use Rattle.nego_base.specs.Lines.{lines}
-use Rattle.nego_base.proofs.LineLaws.{concat-lines, whole_lines}
+use Rattle.nego_base.proofs.LineLaws.{concat-lines, lines_append, whole_lines}
 use Rattle.nego_io.specs.Part.{is_end_line, up_to_end, part_of, newlines, reading, ended, unended, Whole, PastLimit, Unended}
-use Rattle.nego_io.specs.Laws.{IsPart, IsPastLimit, IsUnended, PartsAreFound, PastLimitIsFound, UnendedIsFound}
+use Rattle.nego_io.specs.Laws.{IsPart, IsPastLimit, IsUnended, ClosedPartsStand, PartsAreFound, PastLimitIsFound, UnendedIsFound}
 use Rattle.nego_io.proofs.PartLaws.{from_some}
 use Rattle.nego_io.proofs.ReadingLaws.{reading_part}
 
@@ -202,6 +202,18 @@ part_found limit input part left is =
 end_among : (front : List (List ℕ)) (line : List ℕ) (back : List (List ℕ)) → is_end_line line ≡ true → list_any is_end_line ((front ++ line ∷ []) ++ back) ≡ true
 end_among front line back ends =
     list_any-append is_end_line (front ++ line ∷ []) back ∙ or_left _ _ (list_any-append is_end_line front (line ∷ []) ∙ or_right _ _ (or_left _ _ ends))
+
+-- a text that ends at its only end line is the part, whatever follows
+pub closed_parts_stand : ClosedPartsStand
+closed_parts_stand text rest closed =
+    let last = closed.body ++ 10 ∷ [] in
+    let found = closed.front ++ last ∷ [] in
+    let whole : concat found ≡ text = ap concat (sym closed.split) ∙ concat-lines text in
+    let before = concat closed.front ++ closed.body in
+    let text_is : text ≡ before ++ 10 ∷ [] = sym whole ∙ (concat-append closed.front (last ∷ []) ∙ (ap (λ t. concat closed.front ++ t) (append-nil last) ∙ sym (append_assoc (concat closed.front) closed.body (10 ∷ [])))) in
+    let behind : lines (text ++ rest) ≡ lines text ++ lines rest = rw text_is (lines_append before rest) in
+    let all : lines (text ++ rest) ≡ found ++ lines rest = behind ∙ ap (λ ls. ls ++ lines rest) closed.split in
+    part_from (text ++ rest) found (ap up_to_end all ∙ found_of closed.front last (lines rest) closed.none closed.ends) ∙ ap Some whole
 
 is_past_by : (limit : ℕ) (input : List ℕ) (o : Option (List ℕ)) → part_of input ≡ o → option_map_or (ended limit input) o (unended limit input) ≡ PastLimit → IsPastLimit limit input
 is_past_by limit input None is h = record {

@@ -2,7 +2,7 @@ ghost use Rattle.std.specs.Prelude.{◌≡◌, ℕ, ◌+◌, List, [], ◌∷◌
 ghost use Rattle.std.specs.List.{concat, list_all};
 ghost use Rattle.nego_base.specs.Lines.{lines, words, without_end, is_newline, is_blank, is_word_end};
 ghost use Rattle.nego_io.specs.Answer.{TakesWithin, TakesUpTo};
-ghost use Rattle.nego_io.specs.Laws.{HasNo, PartsAreFound, PastLimitIsFound, UnendedIsFound};
+ghost use Rattle.nego_io.specs.Laws.{HasNo, ClosedPartsStand, PartsAreFound, PastLimitIsFound, UnendedIsFound};
 
 /// What the lines of a text are: they make up the text; each ends with its only newline, but the last may lack one.
 pub fn lines_of_a_text()
@@ -35,4 +35,9 @@ pub fn parts_of_an_input()
     ensures part { PartsAreFound }
     ensures past_limit { PastLimitIsFound }
     ensures unended { UnendedIsFound }
+{}
+
+/// A text whose last line, with its newline, is its only end line is a part, whatever follows it.
+pub fn texts_that_are_parts()
+    ensures { ClosedPartsStand }
 {}
