@@ -91,25 +91,6 @@ lines_cut b (c ∷ cs) =
       | inr h ↦ (b ∷ next.0, (next.1.0, cut_more b c cs next.0 next.1.0 h next.1.1))
     ]
 
--- what ends with a newline has a line
-lines_filled : (bs : List ℕ) → (line : List ℕ) × ((others : List (List ℕ)) × (lines (bs ++ 10 ∷ []) ≡ line ∷ others))
-lines_filled [] = (10 ∷ [], ([], refl))
-lines_filled (b ∷ bs) = let next = lines_cut b (bs ++ 10 ∷ []) in (next.0, (lines next.1.0, next.1.1.first))
-
-onto_first_before : (b : ℕ) (ls more : List (List ℕ)) → (line : List ℕ) × ((others : List (List ℕ)) × (ls ≡ line ∷ others)) → onto_first b (ls ++ more) ≡ onto_first b ls ++ more
-onto_first_before b [] more filled = (let e = filled.1.1 in cc)
-onto_first_before b (line ∷ others) more filled = refl
-
--- where a newline ends the front, the lines of a text are those before and those behind
-pub lines_append : (front back : List ℕ) → lines ((front ++ 10 ∷ []) ++ back) ≡ lines (front ++ 10 ∷ []) ++ lines back
-lines_append [] back = refl
-lines_append (b ∷ bs) back =
-    let next = lines_append bs back in
-    elim (cases_Bool (is_newline b)) [
-      | inl h ↦ cond-true _ _ _ h ∙ (ap (λ ls. (b ∷ []) ∷ ls) next ∙ sym (ap (λ ls. ls ++ lines back) (cond-true _ _ _ h)))
-      | inr h ↦ cond-false _ _ _ h ∙ (ap (onto_first b) next ∙ (onto_first_before b (lines (bs ++ 10 ∷ [])) (lines back) (lines_filled bs) ∙ sym (ap (λ ls. ls ++ lines back) (cond-false _ _ _ h))))
-    ]
-
 nil_left : (xs ys : List (List ℕ)) → xs ++ ys ≡ [] → xs ≡ []
 nil_left [] ys h = refl
 nil_left (x ∷ xs) ys h = cc
@@ -136,6 +117,25 @@ whole_lines (b ∷ bs) (x ∷ xs) back h =
     let more : lines next.1.0 ≡ xs ++ back = (let e = cut.first in cc) in
     let rest = whole_lines next.1.0 xs back more in
     (rw same (line_before next.0 next.1.0 xs back cut.filled cut.is_line more rest.0), rest.1)
+
+lines_filled : (bs : List ℕ) → (line : List ℕ) × ((more : List (List ℕ)) × (lines (bs ++ 10 ∷ []) ≡ line ∷ more))
+lines_filled [] = (10 ∷ [], ([], refl))
+lines_filled (c ∷ cs) = let cut = lines_cut c (cs ++ 10 ∷ []) in (cut.0, (lines cut.1.0, cut.1.1.first))
+
+line_goes_on : (b : ℕ) (bs : List ℕ) (more : List (List ℕ)) → onto_first b (lines (bs ++ 10 ∷ []) ++ more) ≡ onto_first b (lines (bs ++ 10 ∷ [])) ++ more
+line_goes_on b bs more =
+    let filled = lines_filled bs in
+    ap (λ ls. onto_first b (ls ++ more)) filled.1.1 ∙ sym (ap (λ ls. onto_first b ls ++ more) filled.1.1)
+
+-- behind a newline, the lines of a text are those before and those behind
+pub lines_append : (body rest : List ℕ) → lines ((body ++ 10 ∷ []) ++ rest) ≡ lines (body ++ 10 ∷ []) ++ lines rest
+lines_append [] rest = refl
+lines_append (b ∷ bs) rest =
+    let next : lines ((bs ++ 10 ∷ []) ++ rest) ≡ lines (bs ++ 10 ∷ []) ++ lines rest = lines_append bs rest in
+    elim (cases_Bool (is_newline b)) [
+      | inl h ↦ cond-true _ _ _ h ∙ (ap (λ ls. (b ∷ []) ∷ ls) next ∙ sym (ap (λ ls. ls ++ lines rest) (cond-true _ _ _ h)))
+      | inr h ↦ cond-false _ _ _ h ∙ (ap (onto_first b) next ∙ (line_goes_on b bs (lines rest) ∙ sym (ap (λ ls. ls ++ lines rest) (cond-false _ _ _ h))))
+    ]
 
 -- no blank stands in the bytes
 abbrev pub HasNoBlank : List ℕ → Type 0
