@@ -11,6 +11,8 @@ mod op;
 mod reserved;
 mod seq;
 mod steps;
+#[cfg(test)]
+mod tests;
 
 pub use agent_set::AgentSet;
 pub use atom_set::AtomSet;

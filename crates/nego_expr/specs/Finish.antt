@@ -3,7 +3,7 @@ use Rattle.std.specs.Prelude.{◌≡◌, ◌↔◌, ℕ, List, [], ◌∷◌, le
 use Rattle.nego_base.specs.Members.{is_in}
 use Rattle.nego_model.specs.Occurring.{IsSound}
 use Rattle.nego_model.specs.Joining.{RelationTest, Runs}
-use Rattle.nego_model.specs.Diagram.{PlainDiagram, IsDiagram, outcome_name}
+use Rattle.nego_model.specs.Diagram.{PlainDiagram, outcome_name}
 use Rattle.nego_model.specs.Summary.{PlainFinal, PlainSummary, final_outcomes, Tells}
 use Rattle.nego_expr.specs.Work.{WorkOutcome, PlainWork, IsWork, negotiation_of_work, work_outcomes, ByWork}
 use Rattle.nego_expr.specs.Use.{outcomes_at}
@@ -24,7 +24,7 @@ abbrev pub OneAtomWorksAreSound : Type 0
 OneAtomWorksAreSound = (work : PlainWork) → IsWork work → length work.atoms ≡ 1 →
     IsSound (negotiation_of_work work)
     × ((test : RelationTest) (f d e : ℕ) → IsTrue (is_in f (work_outcomes work work.last)) →
-      Runs (negotiation_of_work work) (ByWork test work) f d e ↔ ByWork test work f d e)
+    Runs (negotiation_of_work work) (ByWork test work) f d e ↔ ByWork test work f d e)
 
 -- The summary of a work of one atom that stands for a diagram, with the names of its final outcomes, tells the diagram.
 abbrev pub FinishedWorksTell : Type 0

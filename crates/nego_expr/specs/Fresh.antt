@@ -5,7 +5,7 @@ use Rattle.nego_base.specs.Members.{is_in}
 use Rattle.nego_model.specs.Negotiation.{IsDeterministic}
 use Rattle.nego_model.specs.Occurring.{IsSound}
 use Rattle.nego_model.specs.Joining.{By, Runs}
-use Rattle.nego_model.specs.Expression.{PlainNode, Base}
+use Rattle.nego_model.specs.Expression.{Base}
 use Rattle.nego_model.specs.Diagram.{PlainAtom, PlainOutcome, PlainDiagram, negotiation_of, relation_of, parties_of, nexts_of, outcome_name, IsDiagram}
 use Rattle.nego_model.specs.Summary.{final_outcomes}
 use Rattle.nego_expr.specs.Work.{WorkAtom, WorkOutcome, PlainWork, IsWork, negotiation_of_work, work_outcomes, ByWork}

@@ -2,9 +2,9 @@
 use Rattle.std.specs.Prelude.{ℕ, ◌+◌, Bool, true, false, not, ◌&&◌, ◌==◌, nat_lt, if◌then◌else◌, List, [], ◌∷◌, ◌++◌, length, map, filter, Option, Some, None}
 use Rattle.std.specs.List.{list_all, range_with_len}
 use Rattle.std.specs.Option.{option_map_or}
-use Rattle.nego_base.specs.Members.{is_in, with_member}
+use Rattle.nego_base.specs.Members.{with_member}
 use Rattle.nego_model.specs.Expression.{PlainNode, Join, Then}
-use Rattle.nego_expr.specs.Work.{WorkAtom, WorkOutcome, PlainWork, outcome_at, work_parties, work_outcomes, sent_to}
+use Rattle.nego_expr.specs.Work.{WorkOutcome, PlainWork, outcome_at, work_parties, sent_to}
 
 -- a use of a rule, by the numbers that it names
 pub data PlainUse : Type 0 where
@@ -54,7 +54,7 @@ merged_of work x y = record {
   nodes = work.nodes ++ Join x.node y.node ∷ [];
   numbers = work.numbers;
   outcomes = with_outcome (record { number = x.number; atom = x.atom; targets = x.targets; node = length work.nodes; passed = united x.passed y.passed })
-    (without_outcome y.number work.outcomes);
+      (without_outcome y.number work.outcomes);
   names = work.names;
   bases = work.bases;
 }

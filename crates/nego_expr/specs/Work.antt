@@ -1,7 +1,7 @@
 -- A work: a diagram under rewriting, as plain data. Some atoms and outcomes of the diagram that was read are gone,
 -- and the outcomes that are left have expressions over those that were read.
-use Rattle.std.specs.Prelude.{◌≡◌, ℕ, ◌+◌, ◌<◌, Bool, ◌==◌, if◌then◌else◌, List, [], ◌∷◌, length, map, filter, slice_index_or, Option, Some, None, All, IsTrue, MatchOption, IfSome}
-use Rattle.std.specs.Option.{option_map_or, option_to_list, option_and_then}
+use Rattle.std.specs.Prelude.{◌≡◌, ℕ, ◌<◌, ◌==◌, if◌then◌else◌, List, [], ◌∷◌, length, map, filter, slice_index_or, Option, Some, None, All, IsTrue, MatchOption}
+use Rattle.std.specs.Option.{option_map_or, option_to_list}
 use Rattle.nego_base.specs.Members.{is_in, all_in, IsRising}
 use Rattle.nego_model.specs.Negotiation.{Negotiation, IsNegotiation}
 use Rattle.nego_model.specs.Joining.{Relation, RelationTest, By}

@@ -5,10 +5,15 @@ use Rattle.std.proofs.lemmas.List.{get_or_past}
 use Rattle.nego_base.specs.Members.{is_in}
 use Rattle.nego_model.specs.Negotiation.{Negotiation, IsNegotiation}
 use Rattle.nego_model.specs.Occurring.{PlainMarking, Occurrence, ready, moved, enables, after}
+use Rattle.nego_data.specs.Data.{data_count}
+use Rattle.nego_model.specs.Joining.{Relation}
+use Rattle.nego_model.specs.Reaching.{Reaches}
+use Rattle.nego_model.specs.Locality.{IsLocal}
 use Rattle.nego_base.proofs.Members.{is_in_none}
 use Rattle.nego_model.proofs.Markings.{length-moved, ready-moved_party, ready-moved_other, same_markings, enables-atom, enables-party, enables_from}
-use Rattle.nego_model.proofs.Steps.{after-some, after_from}
-use Rattle.nego_model.proofs.Acting.{in_or_not}
+use Rattle.nego_model.proofs.Steps.{after-some, after-outcome, after_from}
+use Rattle.nego_model.proofs.Reached.{reached_by_last}
+use Rattle.nego_model.proofs.Acting.{in_or_not, acts_commute}
 use Rattle.nego_model.proofs.Proper.{IsSingle, same_enabled}
 
 -- Nobody is in both lists.
@@ -76,3 +81,21 @@ occurrences_commute nego marking one two step step' h k apart = (
 pub enabled_apart : (nego : Negotiation) → IsNegotiation nego → (marking : PlainMarking) (m n : ℕ) → IsSingle nego marking → IsTrue (enables nego marking m) → IsTrue (enables nego marking n) → m ≢ n →
     AreApart (nego.parties m) (nego.parties n)
 enabled_apart nego ok marking m n single h k other a p q = other (same_enabled nego ok marking m n a single h k p q)
+
+-- An occurrence and then one without a common party, which could have happened first, happen in the other order too,
+-- with other data between.
+pub steps_change_places : (nego : Negotiation) (sizes : List ℕ) (relation : Relation) → IsLocal nego sizes relation → (marking one two left : PlainMarking) (step step' : Occurrence) (d c e : ℕ) → d < data_count sizes →
+    after nego marking step ≡ Some one → relation step.1 d c → after nego one step' ≡ Some left → relation step'.1 c e → after nego marking step' ≡ Some two → AreApart (nego.parties step.0) (nego.parties step'.0) →
+    (after nego two step ≡ Some left) × ((c' : ℕ) × relation step'.1 d c' × relation step.1 c' e)
+steps_change_places nego sizes relation local marking one two left step step' d c e below h r k s k' apart =
+    let m = occurrences_commute nego marking one two step step' h k' apart in (
+      m.2 ∙ (sym m.1 ∙ k),
+      acts_commute sizes (nego.parties step.0) (nego.parties step'.0) (relation step.1) (relation step'.1) (local step.0 step.1 (after-outcome nego marking step one h))
+          (local step'.0 step'.1 (after-outcome nego marking step' two k')) apart d c e below r s,
+    )
+
+-- what joint data reach are joint data
+pub Reaches-below : (nego : Negotiation) (sizes : List ℕ) (relation : Relation) → IsLocal nego sizes relation → (from : PlainMarking) (d : ℕ) (to : PlainMarking) (e : ℕ) → d < data_count sizes → Reaches nego relation from d to e → e < data_count sizes
+Reaches-below nego sizes relation local from d to e below h =
+    reached_by_last nego relation from d (λ m c. c < data_count sizes) below
+    (λ m b m' c step way l k r. (local step.0 step.1 (after-outcome nego m step m' k)).stays b c l r) to e h

@@ -8,5 +8,8 @@ pub mod Proper
 pub mod Ways
 pub mod Commuting
 pub mod Acting
+pub mod Alike
+pub mod Diagrams
 pub mod OneAtom
 pub mod OneCase
+mod Examples

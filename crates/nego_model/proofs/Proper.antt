@@ -35,6 +35,16 @@ ready_after nego P marking left step l here next e a h =
     (λ other. subst (P a) (sym (ready-moved_other (nego.parties step.0) (nego.next step.1) marking a below (λ party. true≢false (sym party ∙ other)))) (here a h))
     (cases_Bool (is_in a (nego.parties step.0))))
 
+-- what holds of what each agent is ready for holds after occurrences, where it holds of all next atoms
+pub ready_leaves : (nego : Negotiation) (P : ℕ → List ℕ → Type 0) (steps : List Occurrence) (marking left : PlainMarking) → length marking ≡ nego.agents →
+    ((a : ℕ) → a < nego.agents → P a (ready marking a)) → ((n o a : ℕ) → a < nego.agents → IsOutcome nego n o → IsTrue (is_in a (nego.parties n)) → P a (nego.next o a)) →
+    leaves nego marking steps ≡ Some left → (a : ℕ) → a < nego.agents → P a (ready left a)
+ready_leaves nego P [] marking left l here next e a h = subst (λ m. P a (ready m a)) (same_Some marking left e) (here a h)
+ready_leaves nego P (step ∷ steps) marking left l here next e a h =
+    let k = leaves-first nego marking step steps left e in
+    ready_leaves nego P steps k.0 left (length-after nego marking step k.0 k.1 ∙ l)
+    (ready_after nego P marking k.0 step l here (λ b m o party. next step.0 step.1 b m o party) k.1) next k.2 a h
+
 -- the opening marking is proper
 pub opening-proper : (nego : Negotiation) → IsNegotiation nego → IsProper nego (opening_marking nego)
 opening-proper nego ok = record {
