@@ -118,6 +118,25 @@ whole_lines (b ∷ bs) (x ∷ xs) back h =
     let rest = whole_lines next.1.0 xs back more in
     (rw same (line_before next.0 next.1.0 xs back cut.filled cut.is_line more rest.0), rest.1)
 
+lines_filled : (bs : List ℕ) → (line : List ℕ) × ((more : List (List ℕ)) × (lines (bs ++ 10 ∷ []) ≡ line ∷ more))
+lines_filled [] = (10 ∷ [], ([], refl))
+lines_filled (c ∷ cs) = let cut = lines_cut c (cs ++ 10 ∷ []) in (cut.0, (lines cut.1.0, cut.1.1.first))
+
+line_goes_on : (b : ℕ) (bs : List ℕ) (more : List (List ℕ)) → onto_first b (lines (bs ++ 10 ∷ []) ++ more) ≡ onto_first b (lines (bs ++ 10 ∷ [])) ++ more
+line_goes_on b bs more =
+    let filled = lines_filled bs in
+    ap (λ ls. onto_first b (ls ++ more)) filled.1.1 ∙ sym (ap (λ ls. onto_first b ls ++ more) filled.1.1)
+
+-- behind a newline, the lines of a text are those before and those behind
+pub lines_append : (body rest : List ℕ) → lines ((body ++ 10 ∷ []) ++ rest) ≡ lines (body ++ 10 ∷ []) ++ lines rest
+lines_append [] rest = refl
+lines_append (b ∷ bs) rest =
+    let next : lines ((bs ++ 10 ∷ []) ++ rest) ≡ lines (bs ++ 10 ∷ []) ++ lines rest = lines_append bs rest in
+    elim (cases_Bool (is_newline b)) [
+      | inl h ↦ cond-true _ _ _ h ∙ (ap (λ ls. (b ∷ []) ∷ ls) next ∙ sym (ap (λ ls. ls ++ lines rest) (cond-true _ _ _ h)))
+      | inr h ↦ cond-false _ _ _ h ∙ (ap (onto_first b) next ∙ (line_goes_on b bs (lines rest) ∙ sym (ap (λ ls. ls ++ lines rest) (cond-false _ _ _ h))))
+    ]
+
 -- no blank stands in the bytes
 abbrev pub HasNoBlank : List ℕ → Type 0
 HasNoBlank bytes = list_any is_blank bytes ≡ false

@@ -3,9 +3,11 @@ ghost use Rattle.std.specs.List.{concat, list_all};
 ghost use Rattle.nego_base.specs.Lines.{lines, words, without_end, is_newline, is_blank, is_word_end};
 ghost use Rattle.nego_io.specs.Laws.{HasNo, PartsAreFound, PastLimitIsFound, UnendedIsFound};
 
-/// What the lines of a text are: they make up the text; each ends with its only newline, but the last may lack one.
+/// What the lines of a text are: they make up the text, which can be parted behind a newline; each ends with its only
+/// newline, but the last may lack one.
 pub fn lines_of_a_text()
     ensures joined { (text : List ℕ) → concat (lines text) ≡ text }
+    ensures parted { (body rest : List ℕ) → lines ((body ++ 10 ∷ []) ++ rest) ≡ lines (body ++ 10 ∷ []) ++ lines rest }
     ensures whole { (body rest : List ℕ) → HasNo is_newline body → lines ((body ++ 10 ∷ []) ++ rest) ≡ (body ++ 10 ∷ []) ∷ lines rest }
     ensures last { (b : ℕ) (bs : List ℕ) → HasNo is_newline (b ∷ bs) → lines (b ∷ bs) ≡ (b ∷ bs) ∷ [] }
 {}

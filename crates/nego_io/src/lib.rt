@@ -21,3 +21,6 @@ pub use part::{Part, ReadAnswer, read_part};
 pub use put::{WriteFault, put_all};
 pub use sink::Sink;
 pub use source::Source;
+
+#[cfg(test)]
+mod tests;

@@ -1,4 +1,4 @@
-ghost use Rattle.std.specs.Prelude.{◌≡◌, ℕ, ◌-◌, ◌^◌, ◌<◌, ◌≤◌, List, [], Option, None, IfOk, IfErr, OnErr, option_to_list};
+ghost use Rattle.std.specs.Prelude.{◌≡◌, ℕ, ◌-◌, ◌^◌, ◌<◌, ◌≤◌, List, [], Option, None, IfOk, IfErr, OnErr, option_to_list, length};
 ghost use Rattle.nego_io.specs.Outside.{HasCause, WhereTold, Takes};
 ghost use Rattle.nego_io.specs.Part.{reading, Whole};
 ghost use Rattle.nego_io.specs.Answer.{Answers, FaultHasCause};
@@ -71,6 +71,7 @@ pub fn read_part<S: Source>(alloc: Global, source: &mut S, limit: u32) -> Result
     ensures answers { WhereTold (S.left source.old) (S.left source.new) (Answers limit result) }
     // Whether it tells or not, the bytes are a part and no more.
     ensures whole { IfOk result (λ part. reading limit part.bytes ≡ Whole part.bytes []) }
+    ensures fits { IfOk result (λ part. length part.bytes ≤ limit) }
     ensures fault { IfErr result (λ e. FaultHasCause e (S.faults source.old) (S.faults source.new)) }
     ensures later { S.faults source.old ≤ S.faults source.new }
 {
