@@ -2,6 +2,8 @@
 #![tactic(auto)]
 
 mod streams;
+#[cfg(test)]
+mod tests;
 mod words;
 
 use nego_cli::{Status, nego};
