@@ -1,11 +1,14 @@
 -- What is left of an input behind what is taken of it for a part.
-use Rattle.std.proofs.Common.{◌≡◌, ℕ, ◌+◌, ◌-◌, ◌≤◌, List, [], ◌∷◌, ◌++◌, length, take, drop, Some, refl, sym, ◌∙◌, ap, subst, append_assoc, arith}
+use Rattle.std.proofs.Common.{◌≡◌, ℕ, ◌+◌, ◌-◌, ◌≤◌, List, [], ◌∷◌, ◌++◌, length, take, drop, Some, Result, Ok, Err, refl, sym, ◌∙◌, ap, subst, append_assoc, arith}
 use Rattle.std.proofs.Math.Seq.{drop-append-add}
 use Rattle.std.proofs.lemmas.List.{append-nil, length-append, length-drop, take-append-drop, drop_at, drop-append-le}
 use Rattle.std.proofs.lemmas.Option.{cond_some}
-use Rattle.nego_io.specs.Part.{is_end_line, part_of, Reading, reading, Whole, PastLimit, Unended, left_over}
+use Rattle.nego_io.specs.Part.{is_end_line, part_of, Reading, reading, Whole, PastLimit, Unended, behind, left_over}
 use Rattle.nego_io.specs.Front.{IsOpen}
-use Rattle.nego_io.specs.Answer.{TakesWithin, TakesUpTo}
+use Rattle.nego_io.specs.Answer.{Answers, TakesWithin, TakesUpTo}
+use Rattle.nego_io.specs.declared.part.Part.{Part}
+use Rattle.nego_io.specs.declared.part.ReadAnswer.{ReadAnswer}
+use Rattle.nego_io.specs.declared.part.ReadAnswer.TheVariants.{ReadFault, TooLong, NoEnd, Memory}
 use Rattle.nego_io.proofs.FrontLaws.{part_here, part_beyond}
 use Rattle.nego_io.proofs.FoundLaws.{whole_is, parts_are_found, unended_is_found}
 
@@ -60,3 +63,29 @@ within_limit limit before now takes =
     let all = not_behind limit before (reading limit before) refl in
     let back = left_over limit before (reading limit before) in
     (takes.front, (takes.taken, omega (arith, all, ap length takes.taken, length-append takes.front now, ap length takes.kept, length-append takes.more back)))
+
+behind_is : (limit : ℕ) (input : List ℕ) (r : Reading) → reading limit input ≡ r → behind limit input ≡ left_over limit input r
+behind_is limit input r is = ap (left_over limit input) is
+
+-- a part was taken
+pub part_within : (limit : ℕ) (before part now : List ℕ) → before ≡ part ++ now → reading limit before ≡ Whole part now → TakesWithin limit before now
+part_within limit before part now all is = record { front = part; more = []; taken = all; kept = sym (behind_is limit before (Whole part now) is) }
+
+-- one byte more than a part may have was taken
+pub past_within : (limit : ℕ) (before now : List ℕ) → reading limit before ≡ PastLimit → now ≡ drop (limit + 1) before → TakesWithin limit before now
+past_within limit before now is rest =
+    let front = take (limit + 1) before in
+    record { front = front; more = []; taken = sym (take-append-drop (limit + 1) before) ∙ ap (λ t. front ++ t) (sym rest); kept = rest ∙ sym (behind_is limit before PastLimit is) }
+
+-- all was taken, and it has no end
+pub unended_within : (limit : ℕ) (before now : List ℕ) (line : ℕ) → reading limit before ≡ Unended line → now ≡ [] → TakesWithin limit before now
+unended_within limit before now line is none =
+    record { front = before; more = []; taken = sym (append-nil before) ∙ ap (λ t. before ++ t) (sym none); kept = none ∙ sym (behind_is limit before (Unended line) is) }
+
+-- whatever is answered, nothing of what is behind a part is taken
+pub answers_within : (limit : ℕ) (result : Result Part ReadAnswer) (before now : List ℕ) → Answers limit result before now → TakesWithin limit before now
+answers_within limit (Ok part) before now h = part_within limit before part.bytes now h.0 h.1
+answers_within limit (Err ReadFault) before now h = h
+answers_within limit (Err TooLong) before now h = past_within limit before now h.0 h.1
+answers_within limit (Err (NoEnd line)) before now h = unended_within limit before now line h.0 h.1
+answers_within limit (Err Memory) before now h = h
