@@ -6,6 +6,8 @@ mod deliver;
 mod refusal;
 mod small;
 mod status;
+#[cfg(test)]
+mod tests;
 mod text;
 mod top;
 

@@ -3,12 +3,12 @@ use Rattle.std.proofs.Common.{◌≡◌, ℕ, true, false, inl, inr, List, [], �
 use Rattle.std.specs.Prelude.{bytes_eq, codes}
 use Rattle.std.specs.List.{list_all}
 use Rattle.std.specs.Cmp.Lexicographic.{pointwise}
-use Rattle.std.proofs.lemmas.Bool.{cases_Bool, false≢true, false_from_ne_true, and_parts, ne_eqb}
+use Rattle.std.proofs.lemmas.Bool.{cases_Bool, cond-false, false≢true, false_from_ne_true, and_parts, eq-eqb, ne_eqb}
 use Rattle.std.proofs.lemmas.List.{append-nil, append_cancel_left}
 use Rattle.std.proofs.lemmas.Slice.Eq.{slice_eq-Decides, bytes_eq-Decides}
-use Rattle.nego_base.specs.Lines.{is_blank, is_word_end, words}
+use Rattle.nego_base.specs.Lines.{is_blank, is_line_end, is_word_end, without_end, words}
 use Rattle.nego_base.proofs.LineLaws.{words_blank, words_word, words_none, words_cut}
-use Rattle.nego_io.specs.Part.{is_end}
+use Rattle.nego_io.specs.Part.{is_end, is_end_line}
 
 -- a test that is true has this one word
 pub is_end-true : (bytes : List ℕ) → is_end bytes ≡ true → words bytes ≡ codes "end" ∷ []
@@ -52,3 +52,11 @@ not_end_text bytes (b ∷ bs) same begins apart = false_from_ne_true _ (λ h.
     let all = is_end-true bytes h in
     let first : next.0 ≡ codes "end" = (let e = cut.first in cc) in
     apart next.1.0 (cut.joined ∙ ap (λ t. t ++ next.1.0) first))
+
+-- a line that begins with another word's first byte is no end line
+pub other_line : (b : ℕ) (bs : List ℕ) → is_line_end (b ∷ bs) ≡ false → is_blank b ≡ false → eqb b 101 ≡ false → is_end_line (b ∷ bs) ≡ false
+other_line b bs goes_on solid other =
+    let text = b ∷ without_end bs in
+    let begins : is_word_end text ≡ eqb (length text) 0 = solid ∙ sym (ne_eqb (length text) 0 (λ e. omega arith)) in
+    ap is_end (cond-false _ _ _ goes_on)
+    ∙ not_end_text text text refl begins (λ rest e. let first : b ≡ 101 = cc in false≢true (sym other ∙ eq-eqb b 101 first))

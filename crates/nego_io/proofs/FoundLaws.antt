@@ -1,14 +1,14 @@
 -- The first end line of some lines, and what an input holds by it.
-use Rattle.std.proofs.Common.{◌≡◌, ℕ, ◌+◌, ◌<◌, ◌≤◌, true, false, leb, inl, inr, List, [], ◌∷◌, ◌++◌, length, drop, Option, Some, None, option_map, refl, sym, ◌∙◌, ap, arith}
+use Rattle.std.proofs.Common.{◌≡◌, ℕ, ◌+◌, ◌<◌, ◌≤◌, true, false, leb, inl, inr, List, [], ◌∷◌, ◌++◌, length, drop, Option, Some, None, option_map, refl, sym, ◌∙◌, ap, append_assoc, arith}
 use Rattle.std.specs.List.{concat, list_any}
 use Rattle.std.specs.Option.{option_map_or}
 use Rattle.std.proofs.lemmas.Bool.{cases_Bool, false≢true, or_parts, or_from, or_left, or_right, cond-true, cond-false, leb-true, leb-false, le-leb, lt-leb}
-use Rattle.std.proofs.lemmas.List.{length-append, drop_at}
+use Rattle.std.proofs.lemmas.List.{append-nil, length-append, drop_at}
 use Rattle.std.proofs.lemmas.List.Folds.{concat-append, list_any-append}
 use Rattle.nego_base.specs.Lines.{lines}
-use Rattle.nego_base.proofs.LineLaws.{concat-lines, whole_lines}
+use Rattle.nego_base.proofs.LineLaws.{concat-lines, lines_append, whole_lines}
 use Rattle.nego_io.specs.Part.{is_end_line, up_to_end, part_of, newlines, reading, ended, unended, Whole, PastLimit, Unended}
-use Rattle.nego_io.specs.Laws.{IsPart, IsPastLimit, IsUnended, PartsAreFound, PastLimitIsFound, UnendedIsFound}
+use Rattle.nego_io.specs.Laws.{IsPart, IsPastLimit, IsUnended, ClosedPartsStand, PartsAreFound, PastLimitIsFound, UnendedIsFound}
 use Rattle.nego_io.proofs.PartLaws.{from_some}
 use Rattle.nego_io.proofs.ReadingLaws.{reading_part}
 
@@ -172,13 +172,21 @@ is_part limit input part left found same here fits rest =
       ends = (here.front, (here.last, (part_lines ∙ here.found_is, here.none, here.ends)));
     }
 
-is_part_by : (limit : ℕ) (input part left : List ℕ) (o : Option (List ℕ)) → part_of input ≡ o → option_map_or (ended limit input) o (unended limit input) ≡ Whole part left → IsPart limit input part left
-is_part_by limit input part left None is h = absurd (no_part limit input part left h)
-is_part_by limit input part left (Some mine) is h =
+whole_by : (limit : ℕ) (input part left : List ℕ) (o : Option (List ℕ)) → part_of input ≡ o → option_map_or (ended limit input) o (unended limit input) ≡ Whole part left → (part_of input ≡ Some part) × (length part ≤ limit) × (drop (length part) input ≡ left)
+whole_by limit input part left None is h = absurd (no_part limit input part left h)
+whole_by limit input part left (Some mine) is h =
     let within = within_part limit input mine part left h in
-    let found = part_is input mine is in
-    is_part limit input part left found.0 (found.1.0 ∙ within.0) found.1.1
-    (omega (arith, within.1, ap length within.0)) (ap (λ p. drop (length p) input) (sym within.0) ∙ within.2)
+    (is ∙ ap Some within.0, omega (arith, within.1, ap length within.0), ap (λ p. drop (length p) input) (sym within.0) ∙ within.2)
+
+-- the part that was read is the input's, and within the limit
+pub whole_is : (limit : ℕ) (input part left : List ℕ) → reading limit input ≡ Whole part left → (part_of input ≡ Some part) × (length part ≤ limit) × (drop (length part) input ≡ left)
+whole_is limit input part left h = whole_by limit input part left (part_of input) refl (sym (answered limit input (part_of input) refl) ∙ h)
+
+is_part_of : (limit : ℕ) (input part left : List ℕ) → reading limit input ≡ Whole part left → IsPart limit input part left
+is_part_of limit input part left h =
+    let whole = whole_is limit input part left h in
+    let found = part_is input part whole.0 in
+    is_part limit input part left found.0 found.1.0 found.1.1 whole.1 whole.2
 
 part_found : (limit : ℕ) (input part left : List ℕ) → IsPart limit input part left → reading limit input ≡ Whole part left
 part_found limit input part left is =
@@ -194,6 +202,18 @@ part_found limit input part left is =
 end_among : (front : List (List ℕ)) (line : List ℕ) (back : List (List ℕ)) → is_end_line line ≡ true → list_any is_end_line ((front ++ line ∷ []) ++ back) ≡ true
 end_among front line back ends =
     list_any-append is_end_line (front ++ line ∷ []) back ∙ or_left _ _ (list_any-append is_end_line front (line ∷ []) ∙ or_right _ _ (or_left _ _ ends))
+
+-- a text that ends at its only end line is the part, whatever follows
+pub closed_parts_stand : ClosedPartsStand
+closed_parts_stand text rest closed =
+    let last = closed.body ++ 10 ∷ [] in
+    let found = closed.front ++ last ∷ [] in
+    let whole : concat found ≡ text = ap concat (sym closed.split) ∙ concat-lines text in
+    let before = concat closed.front ++ closed.body in
+    let text_is : text ≡ before ++ 10 ∷ [] = sym whole ∙ (concat-append closed.front (last ∷ []) ∙ (ap (λ t. concat closed.front ++ t) (append-nil last) ∙ sym (append_assoc (concat closed.front) closed.body (10 ∷ [])))) in
+    let behind : lines (text ++ rest) ≡ lines text ++ lines rest = rw text_is (lines_append before rest) in
+    let all : lines (text ++ rest) ≡ found ++ lines rest = behind ∙ ap (λ ls. ls ++ lines rest) closed.split in
+    part_from (text ++ rest) found (ap up_to_end all ∙ found_of closed.front last (lines rest) closed.none closed.ends) ∙ ap Some whole
 
 is_past_by : (limit : ℕ) (input : List ℕ) (o : Option (List ℕ)) → part_of input ≡ o → option_map_or (ended limit input) o (unended limit input) ≡ PastLimit → IsPastLimit limit input
 is_past_by limit input None is h = record {
@@ -231,7 +251,7 @@ unended_found limit input line is =
 
 pub parts_are_found : PartsAreFound
 parts_are_found limit input part left =
-    (λ h. is_part_by limit input part left (part_of input) refl (sym (answered limit input (part_of input) refl) ∙ h), part_found limit input part left)
+    (is_part_of limit input part left, part_found limit input part left)
 
 pub past_limit_is_found : PastLimitIsFound
 past_limit_is_found limit input = (

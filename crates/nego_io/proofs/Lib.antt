@@ -1,3 +1,4 @@
+pub mod BehindLaws
 pub mod EndLaws
 pub mod FoundLaws
 pub mod FrontLaws

@@ -1,6 +1,6 @@
 -- Calls on an object of the outside, one after another.
-use Rattle.std.proofs.Common.{◌≡◌, ℕ, ◌+◌, ◌-◌, ◌≤◌, List, [], ◌++◌, length, take, drop, take-add, Option, Some, None, refl, sym, ◌∙◌, ap, append_assoc, arith}
-use Rattle.std.proofs.lemmas.List.{append-nil, take-append-drop, take_rest}
+use Rattle.std.proofs.Common.{◌≡◌, ◌≢◌, ℕ, ◌+◌, ◌-◌, ◌<◌, ◌≤◌, List, [], ◌++◌, length, take, drop, take-add, Option, Some, None, refl, sym, ◌∙◌, ap, append_assoc, arith}
+use Rattle.std.proofs.lemmas.List.{append-nil, length-drop, take-append-drop, take_rest}
 use Rattle.nego_io.specs.Outside.{Rose, WhereTold, Takes, Puts, PutsFront}
 
 -- What is told has Q where what is told has P and P gives Q.
@@ -49,12 +49,16 @@ puts_then first second old mid new =
 pub rose_later : (before at now : ℕ) → before ≤ at → Rose at now → Rose before now
 rose_later before at now h r = omega arith
 
--- A call put nothing behind the first bytes.
-pub put_front : (bytes : List ℕ) (done : ℕ) (old mid new : Option (List ℕ)) → Puts (take done bytes) old mid → Puts [] mid new → PutsFront bytes old new
-put_front bytes done old mid new first second =
+-- something is behind the first bytes where there are more
+more_behind : (bytes : List ℕ) (done : ℕ) → done < length bytes → drop done bytes ≢ []
+more_behind bytes done within = λ none. omega (arith, length-drop done bytes, ap length none)
+
+-- A call put nothing behind the first bytes, which are not all.
+pub put_front : (bytes : List ℕ) (done : ℕ) (old mid new : Option (List ℕ)) → done < length bytes → Puts (take done bytes) old mid → Puts [] mid new → PutsFront bytes old new
+put_front bytes done old mid new within first second =
     told_then (λ before now. now ≡ before ++ take done bytes) (λ before now. now ≡ before ++ [])
-    (λ before now. (front : List ℕ) × ((rest : List ℕ) × ((bytes ≡ front ++ rest) × (now ≡ before ++ front)))) old mid new
-    (λ before at now e f. (take done bytes, (drop done bytes, (sym (take-append-drop done bytes), f ∙ (append-nil at ∙ e))))) first second
+    (λ before now. (front rest : List ℕ) × (rest ≢ []) × (bytes ≡ front ++ rest) × (now ≡ before ++ front)) old mid new
+    (λ before at now e f. (take done bytes, drop done bytes, more_behind bytes done within, sym (take-append-drop done bytes), f ∙ (append-nil at ∙ e))) first second
 
 -- A call put the first bytes of those that were left.
 pub put_more : (bytes : List ℕ) (done n : ℕ) (old mid new : Option (List ℕ)) → Puts (take done bytes) old mid → Puts (take n (take (length bytes - done) (drop done bytes))) mid new → Puts (take (done + n) bytes) old new

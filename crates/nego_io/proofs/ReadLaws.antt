@@ -4,10 +4,11 @@ use Rattle.std.proofs.lemmas.List.{append-nil, length-append, drop_at}
 use Rattle.nego_io.specs.Outside.{WhereTold, Takes}
 use Rattle.nego_io.specs.Part.{part_of, newlines, reading, Whole, PastLimit}
 use Rattle.nego_io.specs.Front.{IsOpen, IsClosed}
-use Rattle.nego_io.specs.Answer.{Answers, TakesUpTo}
+use Rattle.nego_io.specs.Answer.{Answers, TakesWithin}
 use Rattle.nego_io.specs.declared.part.Part.{Part}
 use Rattle.nego_io.specs.declared.part.ReadAnswer.{ReadAnswer}
 use Rattle.nego_io.specs.declared.part.ReadAnswer.TheVariants.{NoEnd}
+use Rattle.nego_io.proofs.BehindLaws.{FitsParts, open_fits, next_fits, within}
 use Rattle.nego_io.proofs.OutsideLaws.{told_so, told_then, told_both, takes_then}
 use Rattle.nego_io.proofs.ReadingLaws.{reading_closed, reading_all, reading_none, reading_past}
 
@@ -18,14 +19,20 @@ pub record HasTaken (old now : Option (List ℕ)) (bytes : List ℕ) (start line
   pub size : length bytes ≡ count
   pub later : first ≤ last
 
--- No more was taken than these bytes.
-pub taken_up_to : (n : ℕ) (bytes : List ℕ) (old new : Option (List ℕ)) → length bytes ≤ n → Takes bytes old new → WhereTold old new (TakesUpTo n)
-taken_up_to n bytes old new fits = told_so (λ before now. before ≡ bytes ++ now) (TakesUpTo n) old new (λ before now e. (bytes, (e, fits)))
+-- These bytes were taken, which are no longer than a part.
+taken_within : (limit : ℕ) (bytes : List ℕ) (old new : Option (List ℕ)) → FitsParts bytes → length bytes ≤ limit + 1 → Takes bytes old new → WhereTold old new (TakesWithin limit)
+taken_within limit bytes old new fits size = told_so (λ before now. before ≡ bytes ++ now) (TakesWithin limit) old new (λ before now e. within limit bytes before now fits size e)
 
 -- A call failed after these bytes.
-pub taken_then_failed : (n : ℕ) (bytes : List ℕ) (old mid new : Option (List ℕ)) → length bytes ≤ n → Takes bytes old mid → Takes [] mid new → WhereTold old new (TakesUpTo n)
-taken_then_failed n bytes old mid new fits first second =
-    taken_up_to n (bytes ++ []) old new (omega (arith, length-append bytes [])) (takes_then bytes [] old mid new first second)
+pub taken_then_failed : (limit : ℕ) (bytes : List ℕ) (start lines : ℕ) (old mid new : Option (List ℕ)) → IsOpen bytes start lines → length bytes ≤ limit → Takes bytes old mid → Takes [] mid new → WhereTold old new (TakesWithin limit)
+taken_then_failed limit bytes start lines old mid new before size first second =
+    let all : Takes bytes old new = rw (append-nil bytes) at (takes_then bytes [] old mid new first second) in
+    taken_within limit bytes old new (open_fits bytes start lines before) (omega arith) all
+
+-- There was no memory for the byte after these.
+pub taken_then_starved : (limit : ℕ) (bytes : List ℕ) (start lines b : ℕ) (old mid new : Option (List ℕ)) → IsOpen bytes start lines → length bytes ≤ limit → Takes bytes old mid → Takes (b ∷ []) mid new → WhereTold old new (TakesWithin limit)
+taken_then_starved limit bytes start lines b old mid new before size first second =
+    taken_within limit (bytes ++ b ∷ []) old new (next_fits bytes start lines b before) (omega (arith, length-append bytes (b ∷ []))) (takes_then bytes (b ∷ []) old mid new first second)
 
 -- These bytes are a part, and all of them were taken.
 pub taken_part : (limit : ℕ) (part : Part) (old new : Option (List ℕ)) → IsClosed part.bytes → length part.bytes ≤ limit → Takes part.bytes old new → WhereTold old new (Answers limit (Ok part))

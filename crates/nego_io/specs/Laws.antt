@@ -1,8 +1,8 @@
 -- What lines, words and parts are, as laws that say it anew.
-use Rattle.std.specs.Prelude.{◌≡◌, ℕ, ◌+◌, ◌<◌, ◌≤◌, Bool, true, false, ◌↔◌, List, [], ◌∷◌, ◌++◌, length}
+use Rattle.std.specs.Prelude.{◌≡◌, ℕ, ◌+◌, ◌<◌, ◌≤◌, Bool, true, false, ◌↔◌, List, [], ◌∷◌, ◌++◌, length, Some}
 use Rattle.std.specs.List.{concat, list_any}
 use Rattle.nego_base.specs.Lines.{lines}
-use Rattle.nego_io.specs.Part.{is_end_line, newlines, reading, Whole, PastLimit, Unended}
+use Rattle.nego_io.specs.Part.{is_end_line, part_of, newlines, reading, Whole, PastLimit, Unended}
 
 -- The input begins with this part and goes on with what is left. The part is whole lines of the input; its last line
 -- is an end line, and no other is.
@@ -22,6 +22,17 @@ pub record IsUnended (limit : ℕ) (input : List ℕ) (line : ℕ) : Type 0 wher
   pub fits : length input ≤ limit
   pub none : list_any is_end_line (lines input) ≡ false
   pub counted : line ≡ 1 + newlines input
+
+-- The text is whole lines, the last with its newline too. The last is an end line, and no other is.
+pub record IsClosedPart (text : List ℕ) : Type 0 where
+  pub front : List (List ℕ)
+  pub body : List ℕ
+  pub split : lines text ≡ front ++ (body ++ 10 ∷ []) ∷ []
+  pub none : list_any is_end_line front ≡ false
+  pub ends : is_end_line (body ++ 10 ∷ []) ≡ true
+
+abbrev pub ClosedPartsStand : Type 0
+ClosedPartsStand = (text rest : List ℕ) → IsClosedPart text → part_of (text ++ rest) ≡ Some text
 
 abbrev pub PartsAreFound : Type 0
 PartsAreFound = (limit : ℕ) (input part left : List ℕ) → (reading limit input ≡ Whole part left) ↔ IsPart limit input part left

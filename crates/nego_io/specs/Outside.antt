@@ -1,5 +1,5 @@
 -- What a call on an object of the outside leaves of its count of faults and of the bytes that it tells.
-use Rattle.std.specs.Prelude.{◌≡◌, ℕ, ◌+◌, ◌-◌, ◌^◌, ◌≤◌, min, List, ◌++◌, OnErr, Option, Some, None, Result}
+use Rattle.std.specs.Prelude.{◌≡◌, ◌≢◌, ℕ, ◌+◌, ◌-◌, ◌^◌, ◌≤◌, min, List, [], ◌++◌, OnErr, Option, Some, None, Result}
 
 -- the number after n in a count of 64 bits, which stays at its last value
 abbrev pub next_count : ℕ → ℕ
@@ -28,6 +28,7 @@ Takes bytes old new = WhereTold old new (λ before now. before ≡ bytes ++ now)
 abbrev pub Puts : List ℕ → Option (List ℕ) → Option (List ℕ) → Type 0
 Puts bytes old new = WhereTold old new (λ before now. now ≡ before ++ bytes)
 
--- A front of these bytes was put behind what was taken before.
+-- A front of these bytes, but not all, was put behind what was taken before.
 abbrev pub PutsFront : List ℕ → Option (List ℕ) → Option (List ℕ) → Type 0
-PutsFront bytes old new = WhereTold old new (λ before now. (front : List ℕ) × ((rest : List ℕ) × ((bytes ≡ front ++ rest) × (now ≡ before ++ front))))
+PutsFront bytes old new =
+    WhereTold old new (λ before now. (front rest : List ℕ) × (rest ≢ []) × (bytes ≡ front ++ rest) × (now ≡ before ++ front))

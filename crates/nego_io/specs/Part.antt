@@ -46,3 +46,13 @@ unended limit input = if nat_le (length input) limit then Unended (1 + newlines 
 -- what an input holds for one who takes at most `limit` bytes of a part
 unfoldable pub reading : ℕ → List ℕ → Reading
 reading limit input = option_map_or (ended limit input) (part_of input) (unended limit input)
+
+-- what is left of an input, by what it holds, behind what is taken of it for a part
+abbrev pub left_over : ℕ → List ℕ → Reading → List ℕ
+left_over limit input (Whole part left) = left
+left_over limit input PastLimit = drop (limit + 1) input
+left_over limit input (Unended line) = []
+
+-- what is left of an input behind what is taken of it for a part
+abbrev pub behind : ℕ → List ℕ → List ℕ
+behind limit input = left_over limit input (reading limit input)

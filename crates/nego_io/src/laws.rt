@@ -1,7 +1,10 @@
-ghost use Rattle.std.specs.Prelude.{◌≡◌, ℕ, List, [], ◌∷◌, ◌++◌, true};
+ghost use Rattle.std.specs.Prelude.{◌≡◌, ℕ, ◌+◌, List, [], ◌∷◌, ◌++◌, true, Result};
 ghost use Rattle.std.specs.List.{concat, list_all};
 ghost use Rattle.nego_base.specs.Lines.{lines, words, without_end, is_newline, is_blank, is_word_end};
-ghost use Rattle.nego_io.specs.Laws.{HasNo, PartsAreFound, PastLimitIsFound, UnendedIsFound};
+ghost use Rattle.nego_io.specs.Answer.{Answers, TakesWithin, TakesUpTo};
+ghost use Rattle.nego_io.specs.Laws.{HasNo, ClosedPartsStand, PartsAreFound, PastLimitIsFound, UnendedIsFound};
+
+use crate::{Part, ReadAnswer};
 
 /// What the lines of a text are: they make up the text, which can be parted behind a newline; each ends with its only
 /// newline, but the last may lack one.
@@ -26,9 +29,21 @@ pub fn words_of_a_text()
     ensures word { (b : ℕ) (bs : List ℕ) → HasNo is_blank (b ∷ bs) → words (b ∷ bs) ≡ (b ∷ bs) ∷ [] }
 {}
 
+/// How much is taken of an input: whatever is answered of it, nothing of what is behind its part, so at most one byte
+/// above the limit.
+pub fn taken_of_an_input()
+    ensures within { (limit : ℕ) (result : Result Part ReadAnswer) (before now : List ℕ) → Answers limit result before now → TakesWithin limit before now }
+    ensures most { (limit : ℕ) (before now : List ℕ) → TakesWithin limit before now → TakesUpTo (limit + 1) before now }
+{}
+
 /// What an input holds for one who takes at most so many bytes of a part: just one of three things.
 pub fn parts_of_an_input()
     ensures part { PartsAreFound }
     ensures past_limit { PastLimitIsFound }
     ensures unended { UnendedIsFound }
+{}
+
+/// A text whose last line, with its newline, is its only end line is a part, whatever follows it.
+pub fn texts_that_are_parts()
+    ensures { ClosedPartsStand }
 {}

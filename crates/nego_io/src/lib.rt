@@ -14,7 +14,10 @@ mod sink;
 mod source;
 
 pub use failed::Failed;
-pub use laws::{ends_of_lines, lines_of_a_text, parts_of_an_input, words_of_a_text};
+pub use laws::{
+    ends_of_lines, lines_of_a_text, parts_of_an_input, taken_of_an_input, texts_that_are_parts,
+    words_of_a_text,
+};
 pub use mem_sink::MemSink;
 pub use mem_source::MemSource;
 pub use part::{Part, ReadAnswer, read_part};

@@ -63,8 +63,8 @@ fn take_byte<S: Source>(source: &mut S) -> Result<Option<u8>, Failed>
     Ok(Some(buf[0]))
 }
 
-/// Reads the part that the input begins with, a byte at a time, and leaves what is behind it. It takes at most
-/// `limit + 1` bytes. Programs take all their input so.
+/// Reads the part that the input begins with, a byte at a time, and leaves what is behind it, also where a call fails or
+/// memory is wanted. It takes at most `limit + 1` bytes. Programs take all their input so.
 pub fn read_part<S: Source>(alloc: Global, source: &mut S, limit: u32) -> Result<Part, ReadAnswer>
     requires { limit < 2 ^ 32 - 1 }
     // Where the source tells, each answer has its cause in what was left.

@@ -10,6 +10,7 @@ use thiserror::Error;
 pub struct WriteFault;
 
 /// Puts all the bytes behind what the sink took, in as many calls as it needs. Programs write all their output so.
+/// Where it fails, some of the bytes were left.
 pub fn put_all<O: Sink>(sink: &mut O, bytes: &[u8]) -> Result<(), WriteFault>
     ensures ok { OnOk result (Puts bytes.now (O.taken sink.old) (O.taken sink.new)) }
     ensures err { OnErr result (PutsFront bytes.now (O.taken sink.old) (O.taken sink.new)) }

@@ -1,11 +1,11 @@
-use Rattle.std.proofs.Common.{◌+◌, [], ◌∷◌, ◌++◌, length, sym, ◌∙◌, ap, arith}
+use Rattle.std.proofs.Common.{[], ◌∷◌, length, sym, ◌∙◌, ap, arith}
 use Rattle.std.proofs.lemmas.List.{append-nil, length_push}
 use Rattle.std.proofs.lemmas.Result.{err_from_is_err_and}
 use Rattle.nego_io.specs.Part.{reading}
 use Rattle.nego_io.specs.Front.{IsClosed}
 use Rattle.nego_io.proofs.OutsideLaws.{takes_then}
 use Rattle.nego_io.proofs.ReadingLaws.{reading_closed}
-use Rattle.nego_io.proofs.ReadLaws.{answer_of, answers_all, whole_all, taken_all, taken_part, taken_up_to, taken_past}
+use Rattle.nego_io.proofs.ReadLaws.{answer_of, answers_all, whole_all, taken_all, taken_part, taken_then_failed, taken_then_starved, taken_past}
 use Rattle.nego_io.proofs.part.read_part.Goals as goal
 
 pub returns-in_default-clause-answers : goal.returns-in_default-clause-answers
@@ -22,15 +22,34 @@ returns-in_default-clause-whole g c =
     let bytes = c.loop.front.bytes in
     whole_all c.args.limit bytes c.finish.result (answer_of bytes c.finish.result c.finish.ensures.ok c.finish.ensures.err) (omega (arith, c.loop.invariant.size))
 
+pub returns-in_err-byte-clause-answers : goal.returns-in_err-byte-clause-answers
+returns-in_err-byte-clause-answers g c =
+    let left = g.S.Source.left in
+    let front = c.loop.front in
+    let before = c.loop.invariant in
+    let p = err_from_is_err_and c.from_residual.result c.from_residual.ensures.1 in
+    rw (p.1, p.2) (taken_then_failed c.args.limit front.bytes front.line_start front.lines (left c.args.source.now) (left c.loop.source) (left c.take_byte.new.source)
+    before.unended (omega (arith, before.size)) before.told c.in_err-byte.ensures.err)
+
+pub returns-in_err-take_byte-clause-answers : goal.returns-in_err-take_byte-clause-answers
+returns-in_err-take_byte-clause-answers g c =
+    let left = g.S.Source.left in
+    let front = c.loop.front in
+    let before = c.loop.invariant in
+    let p = err_from_is_err_and c.from_residual-in_err-take_byte.result c.from_residual-in_err-take_byte.ensures.1 in
+    rw (p.1, p.2) (taken_then_failed c.args.limit front.bytes front.line_start front.lines (left c.args.source.now) (left c.loop.source) (left c.take_byte-2.new.source)
+    before.unended (omega (arith, before.size)) before.told c.in_err-take_byte.ensures.err)
+
 pub returns-in_err-push-clause-answers : goal.returns-in_err-push-clause-answers
 returns-in_err-push-clause-answers g c =
     let left = g.S.Source.left in
     let bytes = c.loop.front.bytes in
     let byte = c.in-Some.byte in
     let more = rw c.in-Some.is at c.in_ok-byte.ensures.taken in
-    let told = takes_then bytes (byte ∷ []) (left c.args.source.now) (left c.loop.source) (left c.take_byte.new.source) c.loop.invariant.told more in
+    let before = c.loop.invariant in
     let p = err_from_is_err_and c.from_residual-in_err-push.result c.from_residual-in_err-push.ensures.1 in
-    rw (p.1, p.2) (taken_up_to (c.args.limit + 1) (bytes ++ byte ∷ []) _ _ (omega (arith, c.loop.invariant.size, length_push bytes byte)) told)
+    rw (p.1, p.2) (taken_then_starved c.args.limit bytes c.loop.front.line_start c.loop.front.lines byte (left c.args.source.now) (left c.loop.source) (left c.take_byte.new.source)
+    before.unended (omega (arith, before.size)) before.told more)
 
 pub returns-then-branch-clause-answers : goal.returns-then-branch-clause-answers
 returns-then-branch-clause-answers g c =

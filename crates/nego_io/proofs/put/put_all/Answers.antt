@@ -6,7 +6,7 @@ pub returns-in-Ok-eq0-clause-err : goal.returns-in-Ok-eq0-clause-err
 returns-in-Ok-eq0-clause-err g c =
     let taken = g.O.Sink.taken in
     let nothing = rw c.in-Ok-eq0.field-0-test at c.in-Ok-eq0.ensures.taken in
-    put_front c.args.bytes.now c.loop-done.done (taken c.args.sink.now) (taken c.loop-done.sink) (taken c.put.new.self) c.loop-done.invariant.told nothing
+    put_front c.args.bytes.now c.loop-done.done (taken c.args.sink.now) (taken c.loop-done.sink) (taken c.put.new.self) c.loop-done-test.true c.loop-done.invariant.told nothing
 
 pub loop-done-preserved : goal.loop-done-preserved
 loop-done-preserved g c =
@@ -22,4 +22,4 @@ loop-done-preserved g c =
 pub returns-in-Err-clause-err : goal.returns-in-Err-clause-err
 returns-in-Err-clause-err g c =
     let taken = g.O.Sink.taken in
-    put_front c.args.bytes.now c.loop-done.done (taken c.args.sink.now) (taken c.loop-done.sink) (taken c.put.new.self) c.loop-done.invariant.told c.in-Err.ensures.err
+    put_front c.args.bytes.now c.loop-done.done (taken c.args.sink.now) (taken c.loop-done.sink) (taken c.put.new.self) c.loop-done-test.true c.loop-done.invariant.told c.in-Err.ensures.err
