@@ -5,8 +5,7 @@ use Rattle.std.proofs.lemmas.Option.{none-some, same_Some, slice_get_within, get
 use Rattle.std.proofs.lemmas.List.Elements.{All-nil, All-cons, All-head, All-tail, All-filter, All-get_or}
 use Rattle.std.specs.List.{All, filter}
 use Rattle.nego_base.specs.Members.{is_in, without_member, RisesFrom, IsRising}
-use Rattle.nego_base.proofs.Members.{rises_more}
-use Rattle.nego_model.proofs.Members.{is_in_first, is_in_later, is_in_cases, is_in_none}
+use Rattle.nego_base.proofs.Members.{is_in-head, is_in-tail, is_in-cases, is_in_none, rises_more}
 use Rattle.nego_expr.specs.Work.{WorkAtom, WorkOutcome, parties_among, outcome_among}
 use Rattle.nego_expr.specs.Use.{with_outcome, without_outcome, with_nodes_from}
 use Rattle.nego_expr.proofs.Alive.{outcome_among_first, outcome_among_later, each_found}
@@ -51,7 +50,7 @@ passing_at test P (y ∷ ys) o h k = go (test y) refl k (passing_at test P ys o 
   where
     go : (b : Bool) → test y ≡ b → IsTrue (is_in o (numbers_of (cond b (y ∷ filter test ys) (filter test ys)))) →
         (IsTrue (is_in o (numbers_of (filter test ys))) → (x : WorkOutcome) × (x.number ≡ o) × IsTrue (test x) × P x) → (x : WorkOutcome) × (x.number ≡ o) × IsTrue (test x) × P x
-    go true e m more = ⊎_elim (λ q. (y, q, e, All-head P y ys h)) (λ q. more q) (is_in_cases o y.number (numbers_of (filter test ys)) m)
+    go true e m more = ⊎_elim (λ q. (y, sym q, e, All-head P y ys h)) (λ q. more q) (is_in-cases o y.number (numbers_of (filter test ys)) m)
     go false e m more = more m
 
 -- the number of what is found and passes a test is a number of those that pass
@@ -64,10 +63,10 @@ found_passing test (y ∷ ys) o x h t = ⊎_elim
   where
     here : y.number ≡ o → IsTrue (test y) → IsTrue (is_in o (numbers_of (filter test (y ∷ ys))))
     here e q = subst (λ zs. IsTrue (is_in o (numbers_of zs))) (sym (cond-true (test y) (y ∷ filter test ys) (filter test ys) q))
-        (subst (λ n. IsTrue (is_in n (y.number ∷ numbers_of (filter test ys)))) e (is_in_first y.number (numbers_of (filter test ys))))
+        (subst (λ n. IsTrue (is_in n (y.number ∷ numbers_of (filter test ys)))) e (is_in-head y.number (numbers_of (filter test ys))))
 
     later : (b : Bool) → IsTrue (is_in o (numbers_of (filter test ys))) → IsTrue (is_in o (numbers_of (cond b (y ∷ filter test ys) (filter test ys))))
-    later true m = is_in_later o y.number (numbers_of (filter test ys)) m
+    later true m = is_in-tail o y.number (numbers_of (filter test ys)) m
     later false m = m
 
 -- by a number that is there, an outcome is found
@@ -75,15 +74,15 @@ pub found_there : (outcomes : List WorkOutcome) (o : ℕ) → IsTrue (is_in o (n
 found_there [] o h = absurd (is_in_none o [] refl h)
 found_there (y ∷ ys) o h = ⊎_elim
     (λ e. (y, subst (λ n. outcome_among (y ∷ ys) n ≡ Some y) e (outcome_among_first y ys)))
-    (λ other. ⊎_elim (λ e. absurd (other e)) (λ m. let k = found_there ys o m in (k.0, outcome_among_later y ys o other ∙ k.1)) (is_in_cases o y.number (numbers_of ys) h))
+    (λ other. ⊎_elim (λ e. absurd (other (sym e))) (λ m. let k = found_there ys o m in (k.0, outcome_among_later y ys o other ∙ k.1)) (is_in-cases o y.number (numbers_of ys) h))
     (cases_eq y.number o)
 
 -- the number of what is found is there
 pub there_found : (outcomes : List WorkOutcome) (o : ℕ) (x : WorkOutcome) → outcome_among outcomes o ≡ Some x → IsTrue (is_in o (numbers_of outcomes))
 there_found [] o x h = absurd (none-some x h)
 there_found (y ∷ ys) o x h = ⊎_elim
-    (λ k. subst (λ n. IsTrue (is_in n (y.number ∷ numbers_of ys))) k.0 (is_in_first y.number (numbers_of ys)))
-    (λ k. is_in_later o y.number (numbers_of ys) (there_found ys o x k.1))
+    (λ k. subst (λ n. IsTrue (is_in n (y.number ∷ numbers_of ys))) k.0 (is_in-head y.number (numbers_of ys)))
+    (λ k. is_in-tail o y.number (numbers_of ys) (there_found ys o x k.1))
     (found_cases y ys o x h)
 
 -- by a number that isn't there, none is found
@@ -175,13 +174,6 @@ found-behind (y ∷ ys) more o h = ⊎_elim
     (λ other. outcome_among_later y (ys ++ more) o other ∙ found-behind ys more o (sym (outcome_among_later y ys o other) ∙ h))
     (cases_eq y.number o)
 
--- numbers below a bound that rise, and numbers that rise from there, rise
-pub rises-append : (low high : ℕ) (xs ys : List ℕ) → low ≤ high → RisesFrom low xs → All (λ x. x < high) xs → RisesFrom high ys → RisesFrom low (xs ++ ys)
-rises-append low high [] ys l h below k = rises_more low high ys l k
-rises-append low high (x ∷ xs) ys l h below k =
-    let here : x < high = All-head (λ z. z < high) x xs below in
-    (h.0, rises-append (x + 1) high xs ys (omega (arith, here)) h.1 (All-tail (λ z. z < high) x xs below) k)
-
 -- ---- one outcome is another now
 
 -- the outcome that stands at the place of one
@@ -232,7 +224,7 @@ found-with_outcome new (y ∷ ys) h = ⊎_elim
     (λ e. ap (λ z. outcome_among (z ∷ with_outcome new ys) new.number) (replaced-same new y e) ∙ outcome_among_first new (with_outcome new ys))
     (λ other. ap (λ z. outcome_among (z ∷ with_outcome new ys) new.number) (replaced-other new y other)
     ∙ (outcome_among_later y (with_outcome new ys) new.number other
-    ∙ ⊎_elim (λ e. absurd (other e)) (λ m. found-with_outcome new ys m) (is_in_cases new.number y.number (numbers_of ys) h)))
+    ∙ ⊎_elim (λ e. absurd (other (sym e))) (λ m. found-with_outcome new ys m) (is_in-cases new.number y.number (numbers_of ys) h)))
     (cases_eq y.number new.number)
 
 -- by other numbers the same is found as before

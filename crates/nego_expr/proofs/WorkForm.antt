@@ -4,19 +4,12 @@ use Rattle.std.proofs.lemmas.Option.{same_Some}
 use Rattle.std.proofs.lemmas.List.Elements.{All-weaker}
 use Rattle.std.specs.List.{All}
 use Rattle.std.specs.Option.{option_map_or, option_to_list}
-use Rattle.nego_base.specs.Members.{is_in, RisesFrom}
-use Rattle.nego_base.specs.Members as base
-use Rattle.nego_model.specs.Negotiation.{Negotiation, IsNegotiation, IsDeterministic, IsOutcome, IsRising}
-use Rattle.nego_model.proofs.Members.{is_in_single, is_in_none, is_in_first}
+use Rattle.nego_base.specs.Members.{is_in, IsRising}
+use Rattle.nego_model.specs.Negotiation.{Negotiation, IsNegotiation, IsDeterministic, IsOutcome}
+use Rattle.nego_base.proofs.Members.{is_in_single, is_in_none, is_in-head}
 use Rattle.nego_expr.specs.Work.{WorkOutcome, PlainWork, outcome_at, work_parties, work_outcomes, sent_to, negotiation_of_work, IsWork}
 use Rattle.nego_expr.proofs.Alive.{each_found}
 use Rattle.nego_expr.proofs.WorkEdits.{numbers_of, All-found, found-number, passing_at, found_passing, rises-passing}
-
--- numbers that rise from a low one rise
-pub rising_from_low : (low : ℕ) (xs : List ℕ) → RisesFrom low xs → IsRising xs
-rising_from_low low [] h = tt
-rising_from_low low (x ∷ []) h = tt
-rising_from_low low (x ∷ y ∷ ys) h = (let k : x + 1 ≤ y = h.1.0 in omega (arith, k), rising_from_low (x + 1) (y ∷ ys) h.1)
 
 -- an agent's target as the list of its next atoms is one at most
 pub is_in-target : (target : Option ℕ) (m : ℕ) → IsTrue (is_in m (option_to_list target)) → target ≡ Some m
@@ -25,7 +18,7 @@ is_in-target (Some n) m h = ap Some (sym (is_in_single m n h))
 
 rising-target : (target : Option ℕ) → IsRising (option_to_list target)
 rising-target None = tt
-rising-target (Some n) = tt
+rising-target (Some n) = (omega arith, tt)
 
 some-target : (target : Option ℕ) → target ≢ None → option_to_list target ≢ []
 some-target None h e = h refl
@@ -68,7 +61,7 @@ AtomsFit_from nego ok = record {
   all_end = ok.all_end;
 }
 
-module _ (work : PlainWork) (rise : base.IsRising (numbers_of work.outcomes)) where
+module _ (work : PlainWork) (rise : IsRising (numbers_of work.outcomes)) where
   -- an outcome of an atom is found by its number
   pub outcome_found : (P : WorkOutcome → Type 0) (n o : ℕ) → All P work.outcomes → IsTrue (is_in o (work_outcomes work n)) → (x : WorkOutcome) × (outcome_at work o ≡ Some x) × (x.atom ≡ n) × P x
   outcome_found P n o h k =
@@ -99,14 +92,14 @@ work-deterministic work n o a m p outcome h k = one (outcome_at work o) h k
     one (Some x) q r = same_Some m p (sym (is_in-target (sent_to x a) m q) ∙ is_in-target (sent_to x a) p r)
 
 -- A work is a negotiation where its atoms and its alive outcomes fit, their numbers rise, and each atom has an outcome.
-pub negotiation_from_fits : (work : PlainWork) → AtomsFit (negotiation_of_work work) → base.IsRising (numbers_of work.outcomes) → All (OutcomeFits work) work.outcomes →
+pub negotiation_from_fits : (work : PlainWork) → AtomsFit (negotiation_of_work work) → IsRising (numbers_of work.outcomes) → All (OutcomeFits work) work.outcomes →
     ((n : ℕ) → IsTrue (is_in n (map (λ atom. atom.number) work.atoms)) → work_outcomes work n ≢ []) → IsNegotiation (negotiation_of_work work)
 negotiation_from_fits work atoms rise fits some = record {
   first_there = atoms.first_there;
   last_there = atoms.last_there;
   atoms_rise = atoms.atoms_rise;
   parties_rise = atoms.parties_rise;
-  outcomes_rise = λ n h. rising_from_low 0 (work_outcomes work n) (rises-passing (λ x. x.atom == n) 0 work.outcomes rise);
+  outcomes_rise = λ n h. rises-passing (λ x. x.atom == n) 0 work.outcomes rise;
   next_rise = λ n o a h. let x = found n o h in subst IsRising (sym (next-found work o a x.0 x.1)) (rising-target (sent_to x.0 a));
   one_atom = λ m n o h k.
       let x = found m o h in
@@ -153,7 +146,7 @@ fits_from_work work ok = λ k d l. All-weaker Q (OutcomeFits work) fits work.out
           leads = λ other a p e. ok.form.others_lead x.atom x.number a is other p (next a ∙ ap option_to_list e);
           stays = λ a. ⊎_elim (λ p. inl p) (λ e. inr (none-target (sent_to x a) (sym (next a) ∙ e))) (ok.form.strangers_stay x.atom x.number a is);
           sends = λ a m e. ok.form.next_party x.atom x.number a m is
-              (subst (λ xs. IsTrue (is_in m xs)) (sym (next a ∙ ap option_to_list e)) (is_in_first m []));
+              (subst (λ xs. IsTrue (is_in m xs)) (sym (next a ∙ ap option_to_list e)) (is_in-head m []));
         }
 
 -- of two numbers by which one outcome is found, both are its number

@@ -1,21 +1,19 @@
 -- A merge keeps soundness and what the runs relate: what one occurrence reaches before, one occurrence reaches behind it,
 -- and the other way round.
 use Rattle.std.proofs.Common.{◌≡◌, ◌≢◌, ◌⊎◌, ◌↔◌, inl, inr, ⊎_elim, ℕ, ◌+◌, ◌<◌, Bool, not, ◌==◌, ◌&&◌, List, [], ◌∷◌, length, slice_index_or, nat_lt, Option, Some, None, IsTrue, refl, sym, subst, ap, ◌∙◌, arith, ne_eqb, eqb-true}
-use Rattle.std.proofs.lemmas.Bool.{and_parts, cases_eq, eqb-false, false≢true, not-true, not_from_false, ltb-true, false_from_ne_true}
+use Rattle.std.proofs.lemmas.Bool.{and_parts, and_from, cases_eq, eqb-false, false≢true, not-true, not_from_false, ltb-true, false_from_ne_true}
 use Rattle.std.proofs.lemmas.Option.{same_Some}
 use Rattle.std.proofs.lemmas.List.{length-append}
 use Rattle.std.proofs.lemmas.List.Elements.{All-nil, All-cons, All-weaker}
 use Rattle.std.specs.List.{All, list_all}
 use Rattle.std.specs.Option.{option_map_or, option_to_list}
 use Rattle.nego_base.specs.Members.{is_in, all_in, without_member, IsRising}
-use Rattle.nego_base.proofs.Members.{rises-without, without-other}
 use Rattle.nego_model.specs.Negotiation.{Negotiation, IsNegotiation}
 use Rattle.nego_model.specs.Occurring.{PlainMarking, after}
 use Rattle.nego_model.specs.Joining.{RelationTest, By}
 use Rattle.nego_model.specs.Expression.{PlainNode, Join, EachBase, children}
 use Rattle.nego_model.specs.Reaching.{Reaches}
-use Rattle.nego_model.proofs.Members.{is_in_none, all_at, some_member}
-use Rattle.nego_model.proofs.Rising.{is_in-filter, is_in_filter}
+use Rattle.nego_base.proofs.Members.{is_in_none, all_at, some_member, is_in-without, rises-without, without-other}
 use Rattle.nego_model.proofs.Steps.{after-outcome}
 use Rattle.nego_model.proofs.Expressions.{Means-newest, EachBase-newest, EachBase-weaker}
 use Rattle.nego_model.proofs.Reached.{Leads_one, Reaches_one}
@@ -126,13 +124,13 @@ module _ (work : PlainWork) (x y : WorkOutcome) (ok : IsWork work) (two : Merges
 
   is_in-new : (n o : ℕ) → IsTrue (is_in o (work_outcomes new n)) → (o ≢ y.number) × IsTrue (is_in o (work_outcomes work n))
   is_in-new n o h =
-      let k = is_in-filter (λ z. not (z == y.number)) (work_outcomes work n) o (subst (λ xs. IsTrue (is_in o xs)) (outcomes-new n) h) in
+      let k = and_parts (not (o == y.number)) (is_in o (work_outcomes work n)) (sym (is_in-without o y.number (work_outcomes work n)) ∙ subst (λ xs. IsTrue (is_in o xs)) (outcomes-new n) h) in
       (eqb-false o y.number (not-true (o == y.number) k.0), k.1)
 
   is_in_new : (n o : ℕ) → o ≢ y.number → IsTrue (is_in o (work_outcomes work n)) → IsTrue (is_in o (work_outcomes new n))
   is_in_new n o h m =
       subst (λ xs. IsTrue (is_in o xs)) (sym (outcomes-new n))
-      (is_in_filter (λ z. not (z == y.number)) (work_outcomes work n) o (not_from_false (o == y.number) (ne_eqb o y.number h)) m)
+      (is_in-without o y.number (work_outcomes work n) ∙ and_from (not (o == y.number)) (is_in o (work_outcomes work n)) (not_from_false (o == y.number) (ne_eqb o y.number h)) m)
 
   -- the first is an outcome of its atom, and so is the second
   first_is : IsTrue (is_in x.number (work_outcomes work x.atom))
@@ -242,7 +240,7 @@ module _ (work : PlainWork) (x y : WorkOutcome) (ok : IsWork work) (two : Merges
   -- ---- what occurs
 
   same_atoms : SameAtoms before behind
-  same_atoms = record { agents = refl; atoms = refl; parties = λ n h. refl; first = refl; last = refl }
+  same_atoms = record { agents = refl; atoms = λ n. refl; parties = λ n h. refl; first = refl; last = refl }
 
   -- an outcome but for the second sends the agents where it did
   next-kept : (o a : ℕ) → o ≢ y.number → before.next o a ≡ behind.next o a

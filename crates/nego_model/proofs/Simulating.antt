@@ -1,6 +1,6 @@
 -- Where one negotiation can do what another does: what is reached in the other is reached in the one, both are sound
 -- alike, and their complete runs relate the same.
-use Rattle.std.proofs.Common.{◌≡◌, ℕ, ◌+◌, Bool, true, false, cond, List, [], ◌∷◌, replicate, Some, IsTrue, refl, sym, subst, ap, ap₂, ◌∙◌}
+use Rattle.std.proofs.Common.{◌≡◌, ℕ, List, [], ◌∷◌, replicate, Some, IsTrue, sym, subst, ap, ap₂, ◌∙◌}
 use Rattle.std.proofs.lemmas.Option.{same_Some}
 use Rattle.nego_base.specs.Members.{is_in}
 use Rattle.nego_model.specs.Negotiation.{Negotiation, IsNegotiation, IsDeterministic, IsOutcome}
@@ -9,20 +9,11 @@ use Rattle.nego_model.specs.Joining.{Relation, Runs}
 use Rattle.nego_model.specs.Reaching.{all_at_last, Leads, Reaches, EndsAtLast}
 use Rattle.nego_model.proofs.Markings.{enables-atom, enables-party, enables_from}
 use Rattle.nego_model.proofs.Steps.{after-some, after-outcome, after_from, leaves-first}
-use Rattle.nego_model.proofs.Reached.{Leads-itself, Leads_one, Leads_through, Reaches-itself, Reaches_one, Reaches_through, reached_by_last}
+use Rattle.nego_model.proofs.Reached.{Leads-itself, Leads_through, Reaches-itself, Reaches_one, Reaches_through, reached_by_last}
+use Rattle.nego_model.proofs.Alike.{AreAlike, moved-same, IsOutcome-alike, after-alike}
 use Rattle.nego_model.proofs.Ways.{runs_pass_all_at_last, Runs-from_all_at_last, sound_leads, Sound_from_leads}
 
 -- ---- one atom in two negotiations
-
--- next atoms that agree for the parties move a marking alike
-pub moved-agree : (a : ℕ) (parties : List ℕ) (next next' : ℕ → List ℕ) (marking : PlainMarking) → ((b : ℕ) → IsTrue (is_in b parties) → next b ≡ next' b) →
-    moved a parties next marking ≡ moved a parties next' marking
-moved-agree a parties next next' [] h = refl
-moved-agree a parties next next' (here ∷ rest) h = ap₂ ◌∷◌ (first (is_in a parties) refl) (moved-agree (a + 1) parties next next' rest h)
-  where
-    first : (t : Bool) → is_in a parties ≡ t → cond t (next a) here ≡ cond t (next' a) here
-    first true e = h a e
-    first false e = refl
 
 module _ (one two : Negotiation) where
   -- an atom that has the same parties in both is enabled in the other where it is in the one
@@ -37,14 +28,14 @@ module _ (one two : Negotiation) where
   as-after from to n o p h there same k next =
       let s = after-some one from (n, o) to h in
       after_from two from (n, p) (as-enabled from n s.0 there same) k
-      ∙ ap (λ m. Some m) (ap (λ xs. moved 0 xs (two.next p) from) (sym same) ∙ (sym (moved-agree 0 (one.parties n) (one.next o) (two.next p) from next) ∙ s.2))
+      ∙ ap (λ m. Some m) (ap (λ xs. moved 0 xs (two.next p) from) (sym same) ∙ (sym (moved-same (one.parties n) (one.next o) (two.next p) from next) ∙ s.2))
 
 -- ---- negotiations with the same atoms
 
 -- The same agents, atoms, parties of each atom, first and last atom.
 pub record SameAtoms (one two : Negotiation) : Type 0 where
   pub agents : one.agents ≡ two.agents
-  pub atoms : one.atoms ≡ two.atoms
+  pub atoms : (n : ℕ) → is_in n one.atoms ≡ is_in n two.atoms
   pub parties : (n : ℕ) → IsTrue (is_in n one.atoms) → one.parties n ≡ two.parties n
   pub first : one.first ≡ two.first
   pub last : one.last ≡ two.last
@@ -52,8 +43,8 @@ pub record SameAtoms (one two : Negotiation) : Type 0 where
 pub SameAtoms-turned : (one two : Negotiation) → SameAtoms one two → SameAtoms two one
 SameAtoms-turned one two same = record {
   agents = sym same.agents;
-  atoms = sym same.atoms;
-  parties = λ n h. sym (same.parties n (subst (λ xs. IsTrue (is_in n xs)) (sym same.atoms) h));
+  atoms = λ n. sym (same.atoms n);
+  parties = λ n h. sym (same.parties n (same.atoms n ∙ h));
   first = sym same.first;
   last = sym same.last;
 }
@@ -61,7 +52,7 @@ SameAtoms-turned one two same = record {
 module _ (one two : Negotiation) (same : SameAtoms one two) where
   -- an atom of the one is an atom of the other
   pub same-atom : (n : ℕ) → IsTrue (is_in n one.atoms) → IsTrue (is_in n two.atoms)
-  same-atom n h = subst (λ xs. IsTrue (is_in n xs)) same.atoms h
+  same-atom n h = sym (same.atoms n) ∙ h
 
   pub same-opening : opening_marking one ≡ opening_marking two
   same-opening = ap₂ (λ count n. replicate count (n ∷ [])) same.agents same.first
@@ -188,47 +179,18 @@ Runs-same one relation two relation' P same ok single ok' p lasts reached f fina
     Runs-from_ways one relation two relation' same ok single ok' f final related
     (λ d c. Reaches-in one relation two relation' P lasts reached (opening_marking one) d (all_at_last one) c p)
 
--- ---- negotiations that are the same but for what lies past their atoms and outcomes
+-- ---- negotiations alike
 
--- The same atoms, outcomes and next atoms.
-pub record SameNegotiation (one two : Negotiation) : Type 0 where
-  pub form : SameAtoms one two
-  pub outcomes : (n : ℕ) → IsTrue (is_in n one.atoms) → one.outcomes n ≡ two.outcomes n
-  pub next : (n o a : ℕ) → IsOutcome one n o → one.next o a ≡ two.next o a
+-- negotiations alike have the same atoms
+pub SameAtoms-alike : (one two : Negotiation) → AreAlike one two → SameAtoms one two
+SameAtoms-alike one two alike = record { agents = alike.agents; atoms = alike.atoms; parties = alike.parties; first = alike.first; last = alike.last }
 
-module _ (one two : Negotiation) (same : SameNegotiation one two) where
-  -- an outcome of the one is an outcome of the other
-  pub same-outcome : (n o : ℕ) → IsOutcome one n o → IsOutcome two n o
-  same-outcome n o h = (same-atom one two same.form n h.0, subst (λ xs. IsTrue (is_in o xs)) (same.outcomes n h.0) h.1)
-
-  pub SameNegotiation-turned : SameNegotiation two one
-  SameNegotiation-turned = record {
-    form = SameAtoms-turned one two same.form;
-    outcomes = λ n h. sym (same.outcomes n (same-atom two one (SameAtoms-turned one two same.form) n h));
-    next = λ n o a h.
-        let there = same-atom two one (SameAtoms-turned one two same.form) n h.0 in
-        sym (same.next n o a (there, subst (λ xs. IsTrue (is_in o xs)) (sym (same.outcomes n there)) h.1));
-  }
-
-  -- each occurrence of the one is an occurrence of the other
-  pub same-step : (from to : PlainMarking) (step : Occurrence) → after one from step ≡ Some to → after two from step ≡ Some to
-  same-step from to step h =
-      let o = after-outcome one from step to h in
-      same-after one two same.form from to step.0 step.1 step.1 h (same-outcome step.0 step.1 o).1 (λ a k. same.next step.0 step.1 a o)
-
--- Negotiations that are the same are sound alike.
-pub Sound-alike : (one two : Negotiation) → SameNegotiation one two → IsSound one → IsSound two
-Sound-alike one two same =
-    Sound-same one two Anywhere Anywhere same.form tt tt (λ from to step p h. tt) (λ from to step p h. tt)
-    (λ from to step p h. Leads_one two from to step (same-step one two same from to step h))
-    (λ from to step p h. Leads_one one from to step (same-step two one (SameNegotiation-turned one two same) from to step h))
-
--- Complete runs of negotiations that are the same relate the same, where each outcome does.
-pub Runs-alike : (one : Negotiation) (relation : Relation) (two : Negotiation) (relation' : Relation) → SameNegotiation one two → IsNegotiation one → IsDeterministic one → IsNegotiation two →
+-- Complete runs of negotiations alike relate the same, where each outcome of an atom does.
+pub Runs-alike_outcomes : (one : Negotiation) (relation : Relation) (two : Negotiation) (relation' : Relation) → AreAlike one two → IsNegotiation one → IsDeterministic one → IsNegotiation two →
     ((n o d e : ℕ) → IsOutcome one n o → relation o d e → relation' o d e) → (f d e : ℕ) → IsTrue (is_in f (one.outcomes one.last)) → Runs one relation f d e → Runs two relation' f d e
-Runs-alike one relation two relation' same ok single ok' related f d e final =
-    Runs-same one relation two relation' Anywhere same.form ok single ok' tt (λ from to step p h. tt)
+Runs-alike_outcomes one relation two relation' alike ok single ok' related f d e final =
+    Runs-same one relation two relation' Anywhere (SameAtoms-alike one two alike) ok single ok' tt (λ from to step p h. tt)
     (λ from to c b step p h r.
-    Reaches_one two relation' from c to b step (same-step one two same from to step h) (related step.0 step.1 c b (after-outcome one from step to h) r))
-    f (λ h. subst (λ n. IsTrue (is_in f (two.outcomes n))) same.form.last (same-outcome one two same one.last f h).1)
+      Reaches_one two relation' from c to b step (after-alike one two alike from to step h) (related step.0 step.1 c b (after-outcome one from step to h) r))
+    f (λ h. subst (λ n. IsTrue (is_in f (two.outcomes n))) alike.last (IsOutcome-alike one two alike one.last f h).1)
     (λ c b r. related one.last f c b (ok.last_there, final) r) d e

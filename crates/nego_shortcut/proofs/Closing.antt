@@ -1,21 +1,19 @@
 -- A closing keeps soundness and what the runs relate: before it, the one outcome of the first atom sends everyone to the
 -- last atom; behind it, everyone is there from the beginning.
 use Rattle.std.proofs.Common.{◌≡◌, ◌≢◌, ◌⊎◌, ◌↔◌, inl, inr, ⊎_elim, ℕ, ◌+◌, ◌<◌, true, not, ◌==◌, ◌&&◌, List, [], ◌∷◌, length, slice_get, slice_index_or, Option, Some, None, IsTrue, refl, sym, subst, ap, ◌∙◌, arith, eq-eqb, eqb-true}
-use Rattle.std.proofs.lemmas.Bool.{and_parts, eqb-false, not-true, false≢true}
+use Rattle.std.proofs.lemmas.Bool.{and_parts, and_from, lt-ltb, eqb-false, not-true, false≢true}
 use Rattle.std.proofs.lemmas.Option.{same_Some, slice_get_within}
 use Rattle.std.proofs.lemmas.List.{length-append, length-map}
 use Rattle.std.proofs.lemmas.List.Elements.{All-nil, All-cons, All-head, All-filter, filter_passes}
 use Rattle.std.specs.List.{All, range_with_len}
 use Rattle.std.specs.Option.{option_to_list}
 use Rattle.nego_base.specs.Members.{is_in, all_in, IsRising}
-use Rattle.nego_base.proofs.Members.{all_in-member, all_in-members}
-use Rattle.nego_model.specs.Negotiation.{Negotiation, IsNegotiation, IsRising as Rises}
+use Rattle.nego_model.specs.Negotiation.{Negotiation, IsNegotiation}
 use Rattle.nego_model.specs.Occurring.{PlainMarking, Occurrence, enables, after, opening_marking, final_marking, IsSound}
 use Rattle.nego_model.specs.Joining.{RelationTest, By}
 use Rattle.nego_model.specs.Expression.{PlainNode, Then, IsNodeList, Means, EachBase, children}
 use Rattle.nego_model.specs.Reaching.{all_at_last, Leads, Reaches}
-use Rattle.nego_model.proofs.Members.{is_in_first, is_in_cases, is_in_none, is_in_single, all_at, some_member}
-use Rattle.nego_model.proofs.Rising.{is_in-filter, is_in_filter, is_in_range, rising-filter}
+use Rattle.nego_base.proofs.Members.{is_in-head, is_in-cases, is_in_none, is_in_single, all_at, some_member, is_in-filter, is_in-range_zero, rises-filter, all_in-member, all_in-members}
 use Rattle.nego_model.proofs.Steps.{after-outcome}
 use Rattle.nego_model.proofs.Expressions.{Means-append, EachBase-weaker}
 use Rattle.nego_model.proofs.Reached.{Leads-itself, Leads_one, Leads_through, Reaches_one, reached_by_last}
@@ -51,7 +49,7 @@ one_sends count n (x ∷ []) h = (
   x,
   refl,
   λ a l.
-      target_is (sent_to x a) n (all_at (λ b. same_target (sent_to x b) (Some n)) (range_with_len 0 count) a h (is_in_range 0 count a (omega arith) (omega (arith, l)))),
+      target_is (sent_to x a) n (all_at (λ b. same_target (sent_to x b) (Some n)) (range_with_len 0 count) a h (is_in-range_zero a count ∙ lt-ltb a count l)),
 )
 one_sends count n (x ∷ y ∷ outcomes) h = absurd (false≢true h)
 
@@ -63,7 +61,7 @@ one_of_two (x ∷ y ∷ z ∷ zs) a b n l h p q r = absurd (let no_more : ⊥ = 
 one_of_two (x ∷ y ∷ []) a b n l h p q r = places (place a p) (place b q) (place n r)
   where
     place : (m : ℕ) → IsTrue (is_in m (x ∷ y ∷ [])) → (m ≡ x) ⊎ (m ≡ y)
-    place m k = ⊎_elim (λ e. inl (sym e)) (λ t. inr (is_in_single m y t)) (is_in_cases m x (y ∷ []) k)
+    place m k = ⊎_elim (λ e. inl e) (λ t. inr (is_in_single m y t)) (is_in-cases m x (y ∷ []) k)
 
     places : (a ≡ x) ⊎ (a ≡ y) → (b ≡ x) ⊎ (b ≡ y) → (n ≡ x) ⊎ (n ≡ y) → (n ≡ a) ⊎ (n ≡ b)
     places (inl e) (inl f) g = absurd (h (e ∙ sym f))
@@ -120,12 +118,12 @@ module _ (work : PlainWork) (x : WorkOutcome) (ok : IsWork work) (closes : Close
   -- the last atom is left alone
   atom-left : (n : ℕ) → IsTrue (is_in n behind.atoms) → (n ≡ work.last) × IsTrue (is_in n before.atoms)
   atom-left n h =
-      let k = is_in-filter (λ m. m == work.last) before.atoms n (subst (λ xs. IsTrue (is_in n xs)) (atoms-filter (λ m. m == work.last) work.atoms) h) in
+      let k = and_parts (n == work.last) (is_in n before.atoms) (sym (is_in-filter (λ m. m == work.last) n before.atoms) ∙ subst (λ xs. IsTrue (is_in n xs)) (atoms-filter (λ m. m == work.last) work.atoms) h) in
       (eqb-true n work.last k.0, k.1)
 
   last_left : IsTrue (is_in work.last behind.atoms)
   last_left = subst (λ xs. IsTrue (is_in work.last xs)) (sym (atoms-filter (λ m. m == work.last) work.atoms))
-      (is_in_filter (λ m. m == work.last) before.atoms work.last (eq-eqb work.last work.last refl) ok.form.last_there)
+      (is_in-filter (λ m. m == work.last) work.last before.atoms ∙ and_from (work.last == work.last) (is_in work.last before.atoms) (eq-eqb work.last work.last refl) ok.form.last_there)
 
   -- it has its parties
   parties-left : (n : ℕ) → n ≡ work.last → behind.parties n ≡ before.parties n
@@ -138,8 +136,8 @@ module _ (work : PlainWork) (x : WorkOutcome) (ok : IsWork work) (closes : Close
   atoms_fit = record {
     first_there = last_left;
     last_there = last_left;
-    atoms_rise = subst Rises (sym (atoms-filter (λ m. m == work.last) work.atoms)) (rising-filter (λ m. m == work.last) before.atoms ok.form.atoms_rise);
-    parties_rise = λ n h. let k = atom-left n h in subst Rises (sym (parties-left n k.0)) (ok.form.parties_rise n k.1);
+    atoms_rise = subst IsRising (sym (atoms-filter (λ m. m == work.last) work.atoms)) (rises-filter (λ m. m == work.last) 0 before.atoms ok.form.atoms_rise);
+    parties_rise = λ n h. let k = atom-left n h in subst IsRising (sym (parties-left n k.0)) (ok.form.parties_rise n k.1);
     party_below = λ n a h p. let k = atom-left n h in ok.form.party_below n a k.1 (subst (λ xs. IsTrue (is_in a xs)) (parties-left n k.0) p);
     some_party = λ n h e. let k = atom-left n h in ok.form.some_party n k.1 (sym (parties-left n k.0) ∙ e);
     all_begin = everyone;
@@ -234,8 +232,8 @@ module _ (work : PlainWork) (x : WorkOutcome) (ok : IsWork work) (closes : Close
 
   -- the first atom's outcome sends everyone to the last atom
   first_leaves : after before opening (work.first, x.number) ≡ Some gathered
-  first_leaves = after_all_sent before ok.form work.first x.number (work.first ∷ []) (work.last ∷ []) ok.form.first_there (is_in_first work.first [])
-      (subst (λ xs. IsTrue (is_in x.number xs)) (sym first_outcomes) (is_in_first x.number []))
+  first_leaves = after_all_sent before ok.form work.first x.number (work.first ∷ []) (work.last ∷ []) ok.form.first_there (is_in-head work.first [])
+      (subst (λ xs. IsTrue (is_in x.number xs)) (sym first_outcomes) (is_in-head x.number []))
       (λ a h. (ok.form.all_begin a h, next-found work x.number a x first_found ∙ ap option_to_list (closes.sends a h)))
 
   -- nothing else occurs first
@@ -280,8 +278,8 @@ module _ (work : PlainWork) (x : WorkOutcome) (ok : IsWork work) (closes : Close
 
       alive : (n : ℕ) → IsTrue (is_in n before.atoms) → Enabled n
       alive n h = ⊎_elim
-          (λ e. subst Enabled (sym e) (opening, Leads-itself before opening, all_ready-enables before ok.form (work.first ∷ []) work.first ok.form.first_there (is_in_first work.first [])))
-          (λ e. subst Enabled (sym e) (gathered, opening_leads, all_ready-enables before ok.form (work.last ∷ []) work.last ok.form.last_there (is_in_first work.last [])))
+          (λ e. subst Enabled (sym e) (opening, Leads-itself before opening, all_ready-enables before ok.form (work.first ∷ []) work.first ok.form.first_there (is_in-head work.first [])))
+          (λ e. subst Enabled (sym e) (gathered, opening_leads, all_ready-enables before ok.form (work.last ∷ []) work.last ok.form.last_there (is_in-head work.last [])))
           (one_of_two before.atoms work.first work.last n (length-map work.atoms (λ atom. atom.number) ∙ closes.two) closes.apart ok.form.first_there ok.form.last_there h)
 
       completes : (m : PlainMarking) → Occurs m → Leads before m (final_marking before)
