@@ -1,4 +1,6 @@
 pub mod Data
+pub mod Sizes
+pub mod Kept
 pub mod Cases
 pub mod CaseForm
 pub mod Locality

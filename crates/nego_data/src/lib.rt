@@ -2,3 +2,7 @@
 #![tactic(auto)]
 
 pub mod cases;
+mod joint_data;
+pub mod laws;
+
+pub use joint_data::{SizeFault, Sizes};
