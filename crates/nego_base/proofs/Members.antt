@@ -2,7 +2,7 @@
 use Rattle.std.proofs.Common.{Some, add-one, add-zero, ◌≡◌, ◌≢◌, ℕ, zero, suc, ◌+◌, ◌<◌, ◌≤◌, Bool, true, false, not, cond, ◌&&◌, ◌||◌, eqb, ltb, List, [], ◌∷◌, ◌++◌, length, ◌⊎◌, inl, inr, refl, sym, ap, subst, ◌∙◌, arith}
 use Rattle.std.specs.Prelude.{All, slice_get}
 use Rattle.std.specs.List.{list_all, filter, range_with_len}
-use Rattle.std.proofs.lemmas.Bool.{or_left, or_right, both_ways, false_from_ne_true, or_parts, or_cases, and_parts, and_from, eqb-true, eq-eqb, ne_eqb, cases_eq, cases_lt, cases_order, false≢true, true≢false}
+use Rattle.std.proofs.lemmas.Bool.{or_left, or_right, both_ways, false_from_ne_true, or_parts, or_cases, and_parts, and_from, eqb-true, eq-eqb, ne_eqb, cases_Bool, cases_eq, cases_lt, cases_order, false≢true, true≢false}
 use Rattle.std.proofs.lemmas.Bool.Decides.{nat_tests}
 use Rattle.std.proofs.lemmas.List.Elements.{All-nil, All-cons, All-head, All-tail, All-filter}
 use Rattle.nego_base.specs.Members.{is_in, all_in, any_in, with_member, without_member, RisesFrom, IsRising, IsRisingBelow}
@@ -36,6 +36,10 @@ is_in-tail x y xs h = grind (arith, nat_tests)
 -- a member is the head or stands in the tail
 pub is_in-cases : (x y : ℕ) (xs : List ℕ) → is_in x (y ∷ xs) ≡ true → (x ≡ y) ⊎ (is_in x xs ≡ true)
 is_in-cases x y xs h = grind (arith, nat_tests)
+
+-- a number is a member or isn't
+pub in_or_not : (x : ℕ) (xs : List ℕ) → (is_in x xs ≡ true) ⊎ (is_in x xs ≡ true → ⊥)
+in_or_not x xs = elim (cases_Bool (is_in x xs)) [ inl e ↦ inl e | inr e ↦ inr (λ k. true≢false (sym k ∙ e)) ]
 
 -- what holds of each item holds of each member
 pub All-member : (P : ℕ → Type 0) (x : ℕ) (xs : List ℕ) → All P xs → is_in x xs ≡ true → P x

@@ -15,12 +15,13 @@ use Rattle.nego_data.specs.declared.cases.Test.{Test}
 use Rattle.nego_data.specs.declared.cases.Set.{Set}
 use Rattle.nego_data.specs.declared.cases.Case.{Case}
 use Rattle.nego_data.specs.Data.{data_count, split, joint}
-use Rattle.nego_data.specs.Cases.{compares, operand_value, test_holds, gives, term_for, covers, agent_follows, agents_follow, case_relates, relates}
+use Rattle.nego_data.specs.Cases.{rows_of, compares, operand_value, test_holds, gives, term_for, covers, agent_follows, agents_follow, case_relates, relates}
 use Rattle.nego_data.specs.CaseForm.{operand_agents, term_agents, AreAmong, NamesOnly, FitsSize, AssignsBelow, IsCovered}
 use Rattle.nego_data.specs.Locality.{AgreeOn, ActsOn}
 use Rattle.nego_base.proofs.Tests.{passing_item, any_passes, all_pass}
 use Rattle.nego_data.proofs.JointData.{length-split, split-below, AreValues, joint-below, split-joint}
-use Rattle.nego_data.proofs.Tables.{relates-on_data}
+use Rattle.nego_data.proofs.Tables.{relates-on_data, rows_of-relates}
+use Rattle.nego_data.proofs.Acting.{ActsOn-same}
 
 -- each agent follows its assignment where all do
 pub agents_follow-at : (n : ℕ) (sizes : List ℕ) (sets : List Set) (old new : List ℕ) → IsTrue (agents_follow n sizes sets old new) → (a : ℕ) → a < length sizes →
@@ -274,3 +275,15 @@ pub covered_from_related : (sizes : List ℕ) (cases : List Case) (d e : ℕ) �
 covered_from_related sizes cases d e h =
     any_passes (λ case. case_relates sizes case (split sizes d) (split sizes e)) (λ case. covers case (split sizes d)) cases (relates-on_data sizes cases d e h).2
     (λ k x l q. (and_parts (covers (slice_index_or cases k x) (split sizes d)) (agents_follow 0 sizes (slice_index_or cases k x).sets (split sizes d) (split sizes e)) q).0)
+
+-- the table of cases that name some agents alone reads and changes the values of these alone
+pub rows_of-acts : (sizes agents : List ℕ) (cases : List Case) → All (NamesOnly agents) cases → ActsOn sizes agents (λ d e. IsTrue (is_in e (slice_index_or (rows_of sizes cases) d [])))
+rows_of-acts sizes agents cases names =
+    ActsOn-same sizes agents (λ d e. IsTrue (relates sizes cases d e)) (λ d e. IsTrue (is_in e (slice_index_or (rows_of sizes cases) d [])))
+    (λ d e. (λ h. rows_of-relates sizes cases d e ∙ h, λ h. sym (rows_of-relates sizes cases d e) ∙ h)) (relates-acts sizes agents cases names)
+
+-- the table of cases whose numbers fit has in a row something where some case covers the data
+pub rows_of-some : (sizes : List ℕ) (cases : List Case) (d : ℕ) → d < data_count sizes → All (AssignsBelow sizes) cases → IsCovered sizes cases d → (e : ℕ) × IsTrue (is_in e (slice_index_or (rows_of sizes cases) d []))
+rows_of-some sizes cases d h fits covered =
+    let k = related_from_covered sizes cases d h fits covered in
+    (k.0, rows_of-relates sizes cases d k.0 ∙ k.1)

@@ -4,4 +4,5 @@ pub mod SizeFaults
 pub mod Tuples
 pub mod KeptSizes
 pub mod Tables
+pub mod Acting
 pub mod CaseRelations

@@ -8,7 +8,7 @@ use Rattle.nego_model.specs.Reaching.{Reaches}
 use Rattle.nego_model.proofs.Markings.{length-moved, ready-moved_party, ready-moved_other, same_markings, enables-atom, enables-party, enables_from}
 use Rattle.nego_model.proofs.Steps.{after-some, after-outcome, after_from, leaves-first, leaves_from_first, run_leaves}
 use Rattle.nego_model.proofs.Joined.{Joins-wider}
-use Rattle.nego_model.proofs.Acting.{in_or_not}
+use Rattle.nego_base.proofs.Members.{in_or_not}
 
 -- The two have the same agents, atoms, parties, outcomes, first and last atom, and the same next atoms of parties.
 pub record AreAlike (one two : Negotiation) : Type 0 where

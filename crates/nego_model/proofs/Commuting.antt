@@ -13,7 +13,8 @@ use Rattle.nego_base.proofs.Members.{is_in_none}
 use Rattle.nego_model.proofs.Markings.{length-moved, ready-moved_party, ready-moved_other, same_markings, enables-atom, enables-party, enables_from}
 use Rattle.nego_model.proofs.Steps.{after-some, after-outcome, after_from}
 use Rattle.nego_model.proofs.Reached.{reached_by_last}
-use Rattle.nego_model.proofs.Acting.{in_or_not, acts_commute}
+use Rattle.nego_base.proofs.Members.{in_or_not}
+use Rattle.nego_data.proofs.Acting.{acts_commute}
 use Rattle.nego_model.proofs.Proper.{IsSingle, same_enabled}
 
 -- Nobody is in both lists.

@@ -2,19 +2,10 @@
 use Rattle.std.proofs.Common.{◌≡◌, ⊎_elim, ℕ, zero, suc, ◌+◌, ◌<◌, ◌≤◌, Bool, true, false, ◌==◌, cond, List, [], ◌∷◌, length, slice_get, slice_index_or, Some, IsTrue, refl, sym, subst, ap, ◌∙◌, arith, eqb-true, eq-eqb, ltb-true, lt-ltb}
 use Rattle.std.proofs.lemmas.Option.{none-some, same_Some}
 use Rattle.std.specs.Option.{option_map_or}
-use Rattle.std.specs.List.{All}
 use Rattle.nego_base.specs.Members.{is_in, RisesFrom, IsRising}
-use Rattle.nego_data.specs.declared.cases.Case.{Case}
-use Rattle.nego_data.specs.Data.{data_count}
-use Rattle.nego_data.specs.Cases.{relates, rows_of}
-use Rattle.nego_data.specs.CaseForm.{NamesOnly, AssignsBelow, IsCovered}
-use Rattle.nego_data.specs.Locality.{ActsOn}
-use Rattle.nego_data.proofs.Tables.{rows_of-relates}
-use Rattle.nego_data.proofs.CaseRelations.{relates-acts, related_from_covered}
 use Rattle.nego_model.specs.Negotiation.{IsOutcome}
 use Rattle.nego_model.specs.Diagram.{PlainAtom, PlainOutcome, PlainDiagram, negotiation_of, parties_of, outcomes_from, nexts_of, relation_of}
 use Rattle.nego_base.proofs.Members.{is_in-head, is_in-tail, is_in-cases, is_in_none, is_in-range_zero, rises-range, rises_more}
-use Rattle.nego_model.proofs.Acting.{ActsOn-same}
 
 -- Outcome o of a list of outcomes is this one, of this atom.
 pub record OutcomeAt (outcomes : List PlainOutcome) (n o : ℕ) : Type 0 where
@@ -126,15 +117,3 @@ module _ (diagram : PlainDiagram) where
   -- the parties of an atom
   pub parties_of-at : (n : ℕ) (atom : PlainAtom) → slice_get diagram.atoms n ≡ Some atom → parties_of diagram n ≡ atom.parties
   parties_of-at n atom h = ap (λ x. option_map_or (λ (y : PlainAtom). y.parties) x []) h
-
--- the table of cases that name some agents alone reads and changes the values of these alone
-pub rows_of-acts : (sizes agents : List ℕ) (cases : List Case) → All (NamesOnly agents) cases → ActsOn sizes agents (λ d e. IsTrue (is_in e (slice_index_or (rows_of sizes cases) d [])))
-rows_of-acts sizes agents cases names =
-    ActsOn-same sizes agents (λ d e. IsTrue (relates sizes cases d e)) (λ d e. IsTrue (is_in e (slice_index_or (rows_of sizes cases) d [])))
-    (λ d e. (λ h. rows_of-relates sizes cases d e ∙ h, λ h. sym (rows_of-relates sizes cases d e) ∙ h)) (relates-acts sizes agents cases names)
-
--- the table of cases whose numbers fit has in a row something where some case covers the data
-pub rows_of-some : (sizes : List ℕ) (cases : List Case) (d : ℕ) → d < data_count sizes → All (AssignsBelow sizes) cases → IsCovered sizes cases d → (e : ℕ) × IsTrue (is_in e (slice_index_or (rows_of sizes cases) d []))
-rows_of-some sizes cases d h fits covered =
-    let k = related_from_covered sizes cases d h fits covered in
-    (k.0, rows_of-relates sizes cases d k.0 ∙ k.1)
