@@ -4,5 +4,7 @@
 pub mod cases;
 mod joint_data;
 pub mod laws;
+mod table;
 
 pub use joint_data::{SizeFault, Sizes};
+pub use table::Table;
