@@ -12,4 +12,5 @@ pub mod Alike
 pub mod Diagrams
 pub mod OneAtom
 pub mod OneCase
+pub mod Readers
 mod Examples

@@ -1,4 +1,4 @@
-ghost use Rattle.std.specs.Prelude.{◌≡◌, ℕ, ◌+◌, ◌<◌, ◌≤◌, [], length, All, IsTrue, slice_index_or};
+ghost use Rattle.std.specs.Prelude.{◌≡◌, ◌≢◌, ℕ, ◌+◌, ◌<◌, ◌≤◌, [], length, All, IsTrue, slice_index_or};
 ghost use Rattle.std.specs.List.{range_with_len};
 ghost use Rattle.nego_base.specs.Members.{is_in};
 ghost use Rattle.nego_base.specs.Name.{is_name};
@@ -98,6 +98,7 @@ impl Diagram {
     pub fn parties(&self, n: AtomId) -> AgentSet
         requires { n.0 < length self.now.atoms }
         ensures value { result ≡ parties_of self.now n.0 }
+        ensures some { result ≢ [] }
         ensures in_range { All (λ a. a < length self.now.agents) result }
     {
         self.parts.atoms[n.0 as usize].parties
