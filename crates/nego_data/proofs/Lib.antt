@@ -4,5 +4,6 @@ pub mod SizeFaults
 pub mod Tuples
 pub mod KeptSizes
 pub mod Tables
+pub mod Words
 pub mod Acting
 pub mod CaseRelations

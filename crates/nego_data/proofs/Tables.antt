@@ -1,22 +1,124 @@
--- Laws of tables of joint data, and of the tables that cases make.
-use Rattle.std.proofs.Common.{◌≡◌, ⊎_elim, ℕ, ◌<◌, ◌≤◌, true, ◌&&◌, nat_lt, List, [], length, filter, slice_index_or, IsTrue, sym, subst, ap, ◌∙◌, arith, ltb-true, lt-ltb, le-ltb}
-use Rattle.std.proofs.lemmas.Bool.{and_parts, and_from, and_left, cases_lt}
-use Rattle.std.proofs.lemmas.List.{get_or_past}
+-- Laws of tables of joint data, and of the tables that tests and cases make.
+use Rattle.std.proofs.Common.{◌≡◌, inl, inr, ℕ, ◌<◌, ◌≤◌, Bool, true, false, ◌&&◌, ◌||◌, ◌==◌, nat_lt, List, [], length, set, replicate, filter, slice_index_or, IsTrue, refl, sym, subst, ap, ap₂, ◌∙◌, arith, ltb-true, lt-ltb, eq-eqb}
+use Rattle.std.proofs.lemmas.Bool.{and_parts, cases_lt, cases_eq, ne_eqb}
+use Rattle.std.proofs.lemmas.Bool.Decides.{nat_tests}
+use Rattle.std.proofs.lemmas.List.{get_or_past, get_or-replicate, length-replicate, length-set, get_or-set_same, get_or-set_other, ext_get_or}
 use Rattle.std.proofs.lemmas.List.FromFn.{length-map-range_with_len, get_or-map-range_with_len}
-use Rattle.std.proofs.lemmas.List.Elements.{All-from_get_or}
-use Rattle.std.specs.List.{All, list_any}
-use Rattle.nego_base.specs.Members.{is_in, IsRising}
+use Rattle.std.proofs.lemmas.List.Elements.{All-from_get_or, All-nil, All-replicate, All-set}
+use Rattle.std.specs.List.{All, list_any, range_with_len}
+use Rattle.nego_base.specs.Members.{is_in, with_member, IsRising, IsRisingBelow}
 use Rattle.nego_data.specs.declared.cases.Case.{Case}
 use Rattle.nego_data.specs.Data.{data_count, split}
-use Rattle.nego_data.specs.Cases.{relates, case_relates, all_data, rows_of}
-use Rattle.nego_data.specs.Tables.{IsTable}
-use Rattle.nego_base.proofs.Members.{All-member, All-members, is_in-filter, is_in-range_zero, rises-filter, rises-range}
+use Rattle.nego_data.specs.Tables.{IsTable, is_related, rows_by}
+use Rattle.nego_data.specs.Cases.{relates, case_relates, rows_of}
+use Rattle.nego_base.proofs.Members.{All-member, All-members, is_in-filter, is_in-range_zero, is_in-with, is_in_none, rises-filter, rises-range, same_below, with-rises}
 use Rattle.nego_base.proofs.Tests.{same_tests}
 
 -- a row of a table has joint data alone
 pub row-on_data : (count : ℕ) (table : List (List ℕ)) (d e : ℕ) → IsTable count table → d < count → IsTrue (is_in e (slice_index_or table d [])) → e < count
 row-on_data count table d e ok h k =
     All-member (λ x. x < count) e (slice_index_or table d []) (ok.on_data d [] (subst (λ n. d < n) (sym ok.rows) h)) k
+
+-- a row of a table is a set of joint data
+pub row-rises_below : (count : ℕ) (table : List (List ℕ)) (d : ℕ) → IsTable count table → d < count → IsRisingBelow count (slice_index_or table d [])
+row-rises_below count table d ok h =
+    let here : d < length table = subst (λ n. d < n) (sym ok.rows) h in
+    record { rising = ok.rise d [] here; below = ok.on_data d [] here }
+
+-- tables that relate the same are one
+pub same_tables : (count : ℕ) (one two : List (List ℕ)) → IsTable count one → IsTable count two → ((d e : ℕ) → d < count → e < count → is_related one d e ≡ is_related two d e) → one ≡ two
+same_tables count one two ok ok' same = ext_get_or [] one two (ok.rows ∙ sym ok'.rows) (λ d h.
+    let below : d < count = subst (λ n. d < n) ok.rows h in
+    same_below count (slice_index_or one d []) (slice_index_or two d []) (row-rises_below count one d ok below) (row-rises_below count two d ok' below) (λ e k. same d e below k))
+
+-- empty rows are a table
+pub empty-table : (count : ℕ) → IsTable count (replicate count [])
+empty-table count = record {
+  rows = length-replicate count [];
+  rise = All-replicate IsRising count [] tt;
+  on_data = All-replicate (All (λ e. e < count)) count [] (All-nil (λ e. e < count));
+}
+
+-- a table in which one more joint data is related to some is a table
+pub IsTable-with : (count : ℕ) (table : List (List ℕ)) (d e : ℕ) → IsTable count table → d < count → e < count → IsTable count (set table d (with_member e (slice_index_or table d [])))
+IsTable-with count table d e ok h k =
+    let row = with-rises count e (slice_index_or table d []) k (row-rises_below count table d ok h) in record {
+      rows = length-set table d (with_member e (slice_index_or table d [])) ∙ ok.rows;
+      rise = All-set IsRising table d (with_member e (slice_index_or table d [])) row.rising ok.rise;
+      on_data = All-set (All (λ f. f < count)) table d (with_member e (slice_index_or table d [])) row.below ok.on_data;
+    }
+
+-- nothing is related in a table of empty rows
+pub empty-related : (count d e : ℕ) → is_related (replicate count []) d e ≡ false
+empty-related count d e = ap (is_in e) (row d)
+  where
+    row : (d : ℕ) → slice_index_or (replicate {A = List ℕ} count []) d [] ≡ []
+    row d = elim (cases_lt d count) [
+      | inl h ↦ get_or-replicate count d [] [] h
+      | inr h ↦ get_or_past (replicate count []) d [] (subst (λ n. n ≤ d) (sym (length-replicate {A = List ℕ} count [])) h)
+    ]
+
+-- what is related once d is related to e too
+pub related-with : (table : List (List ℕ)) (d e c f : ℕ) → d < length table →
+    is_related (set table d (with_member e (slice_index_or table d []))) c f ≡ (is_related table c f || (c == d && f == e))
+related-with table d e c f h = elim (cases_eq c d) [
+  | inl same ↦
+      ap (is_in f) (ap (λ n. slice_index_or (set table d (with_member e (slice_index_or table d []))) n []) same ∙ get_or-set_same table d (with_member e (slice_index_or table d [])) [] h)
+      ∙ is_in-with f e (slice_index_or table d [])
+      ∙ turned (is_in f (slice_index_or table d [])) ∙ ap₂ (λ n b. is_in f (slice_index_or table n []) || (b && f == e)) (sym same) (sym (eq-eqb c d same))
+  | inr other ↦
+      ap (is_in f) (get_or-set_other table d c (with_member e (slice_index_or table d [])) [] other)
+      ∙ untouched (is_related table c f) ∙ ap (λ b. is_related table c f || (b && f == e)) (sym (ne_eqb c d other))
+]
+  where
+    turned : (b : Bool) → (e == f || b) ≡ (b || (true && f == e))
+    turned b = grind (arith, nat_tests)
+
+    untouched : (b : Bool) → b ≡ (b || (false && f == e))
+    untouched true = refl
+    untouched false = refl
+
+-- ---- the table of a test
+
+module _ (count : ℕ) (test : ℕ → ℕ → Bool) where
+  -- the table of a test has a row for each joint data
+  pub length-rows_by : length (rows_by count test) ≡ count
+  length-rows_by = length-map-range_with_len (λ d. filter (test d) (range_with_len 0 count)) 0 count
+
+  -- the row of joint data
+  pub row-rows_by : (d : ℕ) → d < count → slice_index_or (rows_by count test) d [] ≡ filter (test d) (range_with_len 0 count)
+  row-rows_by d h = get_or-map-range_with_len (λ c. filter (test c) (range_with_len 0 count)) 0 count d d [] h (omega arith)
+
+  -- the table of a test relates the joint data that pass it
+  pub rows_by-related : (d e : ℕ) → d < count → e < count → is_related (rows_by count test) d e ≡ test d e
+  rows_by-related d e h k =
+      ap (is_in e) (row-rows_by d h)
+      ∙ is_in-filter (test d) e (range_with_len 0 count)
+      ∙ ap (λ b. test d e && b) (is_in-range_zero e count ∙ lt-ltb e count k)
+      ∙ and_true (test d e)
+    where
+      and_true : (b : Bool) → (b && true) ≡ b
+      and_true true = refl
+      and_true false = refl
+
+  -- the table of a test is a table
+  pub rows_by-table : IsTable count (rows_by count test)
+  rows_by-table = record {
+    rows = length-rows_by;
+    rise = All-from_get_or IsRising (rows_by count test) [] (λ d h. subst IsRising (sym (row-rows_by d (at d h))) (rises-filter (test d) 0 (range_with_len 0 count) (rises-range 0 count)));
+    on_data = All-from_get_or (All (λ e. e < count)) (rows_by count test) [] (λ d h.
+        All-members (λ e. e < count) (slice_index_or (rows_by count test) d []) (λ e k. below d e (at d h) k));
+  }
+    where
+      at : (d : ℕ) → d < length (rows_by count test) → d < count
+      at d h = subst (λ n. d < n) length-rows_by h
+
+      below : (d e : ℕ) → d < count → is_related (rows_by count test) d e ≡ true → e < count
+      below d e h k =
+          let found : (test d e && is_in e (range_with_len 0 count)) ≡ true = sym (ap (is_in e) (row-rows_by d h) ∙ is_in-filter (test d) e (range_with_len 0 count)) ∙ k in
+          ltb-true e count (sym (is_in-range_zero e count) ∙ (and_parts (test d e) (is_in e (range_with_len 0 count)) found).1)
+
+-- ---- the table of cases
 
 -- what cases relate are joint data
 pub relates-on_data : (sizes : List ℕ) (cases : List Case) (d e : ℕ) → IsTrue (relates sizes cases d e) →
@@ -27,45 +129,23 @@ relates-on_data sizes cases d e h =
     let q = and_parts (nat_lt e (data_count sizes)) some_case p.1 in
     (ltb-true d (data_count sizes) p.0, ltb-true e (data_count sizes) q.0, q.1)
 
--- the rows of cases are as many as the joint data
-pub length-rows_of : (sizes : List ℕ) (cases : List Case) → length (rows_of sizes cases) ≡ data_count sizes
-unfolding rows_of
-length-rows_of sizes cases = length-map-range_with_len (λ d. filter (relates sizes cases d) (all_data sizes)) 0 (data_count sizes)
-
--- the row of joint data
-pub row-rows_of : (sizes : List ℕ) (cases : List Case) (d : ℕ) → d < data_count sizes → slice_index_or (rows_of sizes cases) d [] ≡ filter (relates sizes cases d) (all_data sizes)
-unfolding rows_of
-row-rows_of sizes cases d h =
-    get_or-map-range_with_len (λ c. filter (relates sizes cases c) (all_data sizes)) 0 (data_count sizes) d d [] h (omega arith)
-
--- a row has what the cases relate
-pub rows_of-relates : (sizes : List ℕ) (cases : List Case) (d e : ℕ) → is_in e (slice_index_or (rows_of sizes cases) d []) ≡ relates sizes cases d e
-rows_of-relates sizes cases d e = ⊎_elim within past (cases_lt d (data_count sizes))
-  where
-    -- what is related is on the joint data
-    implied : (relates sizes cases d e && nat_lt e (data_count sizes)) ≡ relates sizes cases d e
-    implied = same_tests (relates sizes cases d e && nat_lt e (data_count sizes)) (relates sizes cases d e)
-        (λ k. (and_parts (relates sizes cases d e) (nat_lt e (data_count sizes)) k).0)
-        (λ k. and_from (relates sizes cases d e) (nat_lt e (data_count sizes)) k (lt-ltb e (data_count sizes) (relates-on_data sizes cases d e k).1))
-
-    within : d < data_count sizes → is_in e (slice_index_or (rows_of sizes cases) d []) ≡ relates sizes cases d e
-    within h = ap (is_in e) (row-rows_of sizes cases d h)
-        ∙ (is_in-filter (relates sizes cases d) e (all_data sizes)
-        ∙ (ap (λ b. relates sizes cases d e && b) (is_in-range_zero e (data_count sizes)) ∙ implied))
-
-    past : data_count sizes ≤ d → is_in e (slice_index_or (rows_of sizes cases) d []) ≡ relates sizes cases d e
-    past h = ap (is_in e) (get_or_past (rows_of sizes cases) d [] (subst (λ n. n ≤ d) (sym (length-rows_of sizes cases)) h))
-        ∙ sym (and_left (nat_lt d (data_count sizes)) (nat_lt e (data_count sizes) && list_any (λ case. case_relates sizes case (split sizes d) (split sizes e)) cases) (le-ltb d (data_count sizes) h))
-
--- the rows of cases are a table
+-- the table of cases is a table
 pub rows_of-table : (sizes : List ℕ) (cases : List Case) → IsTable (data_count sizes) (rows_of sizes cases)
-rows_of-table sizes cases = record {
-  rows = length-rows_of sizes cases;
-  rise = All-from_get_or IsRising (rows_of sizes cases) [] (λ d h. subst IsRising (sym (row-rows_of sizes cases d (at d h))) (rises-filter (relates sizes cases d) 0 (all_data sizes) (rises-range 0 (data_count sizes))));
-  on_data = All-from_get_or (All (λ e. e < data_count sizes)) (rows_of sizes cases) [] (λ d h.
-      All-members (λ e. e < data_count sizes) (slice_index_or (rows_of sizes cases) d []) (λ e k.
-      (relates-on_data sizes cases d e (subst (λ b. b ≡ true) (rows_of-relates sizes cases d e) k)).1));
-}
+unfolding rows_of
+rows_of-table sizes cases = rows_by-table (data_count sizes) (relates sizes cases)
+
+-- the table of cases relates what the cases do
+pub rows_of-relates : (sizes : List ℕ) (cases : List Case) (d e : ℕ) → is_in e (slice_index_or (rows_of sizes cases) d []) ≡ relates sizes cases d e
+unfolding rows_of
+rows_of-relates sizes cases d e = same_tests (is_related (rows_by count (relates sizes cases)) d e) (relates sizes cases d e)
+    (λ k. elim (cases_lt d count) [
+      | inl h ↦ sym (rows_by-related count (relates sizes cases) d e h (row-on_data count (rows_by count (relates sizes cases)) d e (rows_by-table count (relates sizes cases)) h k)) ∙ k
+      | inr h ↦ absurd (is_in_none e (slice_index_or (rows_by count (relates sizes cases)) d []) (past h) k)
+    ])
+    (λ k. let below = relates-on_data sizes cases d e k in rows_by-related count (relates sizes cases) d e below.0 below.1 ∙ k)
   where
-    at : (d : ℕ) → d < length (rows_of sizes cases) → d < data_count sizes
-    at d h = subst (λ n. d < n) (length-rows_of sizes cases) h
+    count : ℕ
+    count = data_count sizes
+
+    past : count ≤ d → slice_index_or (rows_by count (relates sizes cases)) d [] ≡ []
+    past h = get_or_past (rows_by count (relates sizes cases)) d [] (subst (λ n. n ≤ d) (sym (length-rows_by count (relates sizes cases))) h)

@@ -1,11 +1,13 @@
 -- What may be asked of cases: whom they name, what they assign, and what they cover.
-use Rattle.std.specs.Prelude.{ℕ, ◌<◌, List, [], ◌∷◌, slice_index, IsTrue, ⊤}
+use Rattle.std.specs.Prelude.{◌≢◌, ℕ, ◌<◌, List, [], ◌∷◌, slice_index, IsTrue, ⊤, AllPairs}
 use Rattle.std.specs.List.{All, list_any}
 use Rattle.nego_base.specs.Members.{is_in}
 use Rattle.nego_data.specs.declared.cases.Operand.{Operand}
 use Rattle.nego_data.specs.declared.cases.Operand.TheVariants as operands
 use Rattle.nego_data.specs.declared.cases.Term.{Term}
 use Rattle.nego_data.specs.declared.cases.Term.TheVariants as terms
+use Rattle.nego_data.specs.declared.cases.Test.{Test}
+use Rattle.nego_data.specs.declared.cases.Set.{Set}
 use Rattle.nego_data.specs.declared.cases.Case.{Case}
 use Rattle.nego_data.specs.Data.{split}
 use Rattle.nego_data.specs.Cases.{covers}
@@ -45,3 +47,27 @@ AssignsBelow sizes case = All (λ set. FitsSize set.term (slice_index sizes set.
 -- Some case covers the joint data.
 abbrev pub IsCovered : List ℕ → List Case → ℕ → Type 0
 IsCovered sizes cases d = IsTrue (list_any (λ case. covers case (split sizes d)) cases)
+
+-- No agent is assigned twice.
+abbrev pub AssignsOnce : Case → Type 0
+AssignsOnce case = AllPairs (λ one two. one.agent.0 ≢ two.agent.0) case.sets
+
+-- An agent on the right side of a comparison is below the count.
+abbrev pub OperandBelow : ℕ → Operand → Type 0
+OperandBelow count (operands.Number n) = ⊤
+OperandBelow count (operands.Value b) = b.0 < count
+
+-- The agents of a comparison are below the count.
+abbrev pub TestBelow : ℕ → Test → Type 0
+TestBelow count test = (test.agent.0 < count) × OperandBelow count test.right
+
+-- An agent of a term is below the count.
+abbrev pub TermBelow : ℕ → Term → Type 0
+TermBelow count terms.Any = ⊤
+TermBelow count (terms.Number n) = ⊤
+TermBelow count (terms.Plus b n) = b.0 < count
+TermBelow count (terms.Minus b n) = b.0 < count
+
+-- The agents of an assignment are below the count.
+abbrev pub SetBelow : ℕ → Set → Type 0
+SetBelow count set = (set.agent.0 < count) × TermBelow count set.term

@@ -1,6 +1,6 @@
 -- The relation of an outcome on joint data, by its cases.
-use Rattle.std.specs.Prelude.{ℕ, ◌+◌, ◌-◌, min, Bool, true, not, ◌&&◌, ◌==◌, nat_lt, nat_le, if◌then◌else◌, List, [], ◌∷◌, map, filter, slice_index, Option, Some, None}
-use Rattle.std.specs.List.{list_any, list_all, range_with_len}
+use Rattle.std.specs.Prelude.{ℕ, ◌+◌, ◌-◌, min, Bool, true, not, ◌&&◌, ◌==◌, nat_lt, nat_le, if◌then◌else◌, List, [], ◌∷◌, slice_index, Option, Some, None}
+use Rattle.std.specs.List.{list_any, list_all}
 use Rattle.nego_base.specs.declared.op.Op.{Op}
 use Rattle.nego_base.specs.declared.op.Op.TheVariants.{Eq, Ne, Lt, Le, Gt, Ge}
 use Rattle.nego_data.specs.declared.cases.Operand.{Operand}
@@ -11,6 +11,7 @@ use Rattle.nego_data.specs.declared.cases.Test.{Test}
 use Rattle.nego_data.specs.declared.cases.Set.{Set}
 use Rattle.nego_data.specs.declared.cases.Case.{Case}
 use Rattle.nego_data.specs.Data.{data_count, split}
+use Rattle.nego_data.specs.Tables.{rows_by}
 
 -- whether the comparison of two numbers holds
 abbrev pub compares : Op → ℕ → ℕ → Bool
@@ -67,10 +68,6 @@ abbrev pub relates : List ℕ → List Case → ℕ → ℕ → Bool
 relates sizes cases d e =
     nat_lt d (data_count sizes) && (nat_lt e (data_count sizes) && list_any (λ case. case_relates sizes case (split sizes d) (split sizes e)) cases)
 
--- all joint data, rising
-abbrev pub all_data : List ℕ → List ℕ
-all_data sizes = range_with_len 0 (data_count sizes)
-
 -- for each joint data the rising list of those to which the cases relate it
 unfoldable pub rows_of : List ℕ → List Case → List (List ℕ)
-rows_of sizes cases = map (λ d. filter (relates sizes cases d) (all_data sizes)) (all_data sizes)
+rows_of sizes cases = rows_by (data_count sizes) (relates sizes cases)

@@ -1,7 +1,7 @@
 pub mod Data
 pub mod Sizes
 pub mod Kept
+pub mod Tables
 pub mod Cases
 pub mod CaseForm
 pub mod Locality
-pub mod Tables

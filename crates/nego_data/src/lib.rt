@@ -2,9 +2,10 @@
 #![tactic(auto)]
 
 pub mod cases;
+mod covering;
 mod joint_data;
 pub mod laws;
-mod table;
+mod rows;
 
 pub use joint_data::{SizeFault, Sizes};
-pub use table::Table;
+pub use rows::Table;

@@ -1,0 +1,49 @@
+//! Which joint data a case covers.
+ghost use Rattle.std.specs.Prelude.{◌≡◌, All};
+ghost use Rattle.nego_data.specs.Cases.{covers, test_holds, operand_value, compares};
+ghost use Rattle.nego_data.specs.CaseForm.{TestBelow, OperandBelow};
+
+use crate::cases::{Case, Operand, Test};
+use nego_base::Op;
+
+/// Whether all comparisons of the case hold of the values.
+pub(crate) fn covers(case: &Case, values: &[u16; 16]) -> bool
+    requires { All (TestBelow 16) case.now.tests }
+    ensures { result ≡ covers case.now values.now }
+{
+    case.tests.iter().all(|test| test_holds(test, values))
+}
+
+/// Whether the comparison holds of the values.
+fn test_holds(test: &Test, values: &[u16; 16]) -> bool
+    requires { TestBelow 16 test.now }
+    ensures { result ≡ test_holds test.now values.now }
+{
+    let left = u32::from(values[test.agent.0 as usize]);
+    compares(test.op, left, operand_value(test.right, values))
+}
+
+/// The number on the right of a comparison.
+fn operand_value(operand: Operand, values: &[u16; 16]) -> u32
+    requires { OperandBelow 16 operand }
+    ensures { result ≡ operand_value operand values.now }
+{
+    match operand {
+        Operand::Number(n) => n,
+        Operand::Value(b) => u32::from(values[b.0 as usize]),
+    }
+}
+
+/// Whether the comparison of the numbers holds.
+fn compares(op: Op, left: u32, right: u32) -> bool
+    ensures { result ≡ compares op left right }
+{
+    match op {
+        Op::Eq => left == right,
+        Op::Ne => left != right,
+        Op::Lt => left < right,
+        Op::Le => left <= right,
+        Op::Gt => left > right,
+        Op::Ge => left >= right,
+    }
+}

@@ -1,0 +1,76 @@
+//! Tables of joint data, kept as rows of bits.
+ghost use Rattle.std.specs.Prelude.{◌≡◌, ◌+◌, ◌*◌, ◌/◌, ◌%◌, ◌<◌, ◌≤◌, ◌-◌, [], length, replicate, slice_index_or, slice_set, IfOk};
+ghost use Rattle.nego_base.specs.Members.{is_in, with_member};
+ghost use Rattle.nego_data.specs.Tables.{IsTable, row_words, word_place};
+
+use nego_base::Memory;
+use std::alloc::Global;
+use std::marker::Model;
+
+/// The bits of a word.
+const WORD_BITS: usize = 64;
+
+/// What an outcome relates: for each joint data a row of bits, one for each joint data. Contracts see it as the list
+/// that gives for each joint data the rising list of those to which it is related.
+#[derive(Debug, Drop)]
+pub struct Table {
+    count: u16,
+    words: Vec<u64>,
+}
+
+impl Model for Table {
+    ghost use Rattle.std.specs.Prelude.{ℕ, List};
+    ghost use Rattle.nego_data.specs.Tables.{rows_of_words, IsPacked};
+
+    ghost Value = { List (List ℕ) };
+
+    ghost view = { λ t. rows_of_words t.count t.words.items };
+
+    ghost invariant = { λ t. IsPacked t.count t.words.items };
+}
+
+impl Table {
+    /// The table of so many joint data of which none are related.
+    pub(crate) fn empty(alloc: Global, count: u16) -> Result<Table, Memory>
+        requires { count ≤ 1024 }
+        ensures { IfOk result (λ table. table ≡ replicate count []) }
+    {
+        let words = vec![in alloc; 0; count as usize * row_words(count)]?;
+        Ok(Table { count, words })
+    }
+
+    /// Relates d to e.
+    pub(crate) fn relate(&mut self, d: u16, e: u16)
+        requires from { d < length self.old }
+        requires to { e < length self.old }
+        ensures { self.new ≡ slice_set self.old d (with_member e (slice_index_or self.old d [])) }
+    {
+        let place = word_place(self.count, d, e);
+        self.words[place] |= 1 << (e as usize % WORD_BITS);
+    }
+
+    /// Whether d is related to e. Both are below the number of joint data.
+    pub fn related(&self, d: u16, e: u16) -> bool
+        requires from { d < length self.now }
+        requires to { e < length self.now }
+        ensures value { result ≡ is_in e (slice_index_or self.now d []) }
+        ensures table { IsTable (length self.now) self.now }
+    {
+        let word = self.words[word_place(self.count, d, e)];
+        word >> (e as usize % WORD_BITS) & 1 == 1
+    }
+}
+
+/// How many words have a bit for each of so many joint data.
+fn row_words(count: u16) -> usize
+    ensures { result ≡ row_words count }
+{
+    (count as usize).div_ceil(WORD_BITS)
+}
+
+/// In which word the bit for d and e stands.
+fn word_place(count: u16, d: u16, e: u16) -> usize
+    ensures { result ≡ word_place count d e }
+{
+    d as usize * row_words(count) + e as usize / WORD_BITS
+}
