@@ -13,4 +13,5 @@ pub mod Diagrams
 pub mod OneAtom
 pub mod OneCase
 pub mod Readers
+pub mod Making
 mod Examples

@@ -7,6 +7,8 @@ use Rattle.std.specs.Option.{option_map, option_map_or}
 use Rattle.std.specs.List.{All, range_with_len}
 use Rattle.nego_base.specs.Members.{is_in, IsRising}
 use Rattle.nego_base.specs.Name.{is_name}
+use Rattle.nego_data.specs.Data.{data_count}
+use Rattle.nego_data.specs.Tables.{IsTable}
 use Rattle.nego_base.proofs.Members.{is_in-head, is_in-range, All-member, All-members, head-least}
 use Rattle.nego_model.specs.declared.parts.AtomPart.{AtomPart}
 use Rattle.nego_model.specs.declared.parts.OutcomePart.{OutcomePart}
@@ -118,3 +120,8 @@ module _ (parts : Parts) (ok : AreParts parts) where
   -- the numbers of its outcomes are numbers of outcomes
   pub numbers_part-below : (n : ℕ) (part : AtomPart) → slice_get parts.atoms n ≡ Some part → part.start + part.count ≤ length (plain_of parts).outcomes
   numbers_part-below n part at = numbers-below (plain_of parts) ok.diagram n part.start part.count (atom_part-below n part at) (ok.numbers n part at)
+
+  -- the table of an outcome of a part is one
+  pub table_part-ok : (o : ℕ) (part : OutcomePart) → slice_get parts.outcomes o ≡ Some part → IsTable (data_count parts.sizes) part.table
+  table_part-ok o part at =
+      all_at_place (λ outcome. IsTable (data_count parts.sizes) outcome.table) (plain_of parts).outcomes o (plain_outcome (length parts.agents) part) ok.diagram.tables (outcome_part-at o part at)

@@ -1,7 +1,9 @@
-ghost use Rattle.std.specs.Prelude.{◌≡◌, ◌≢◌, ℕ, ◌+◌, ◌<◌, ◌≤◌, [], length, All, IsTrue, slice_index_or};
+ghost use Rattle.std.specs.Prelude.{◌≡◌, ◌≢◌, ℕ, ◌+◌, ◌<◌, ◌≤◌, [], length, All, IsTrue};
 ghost use Rattle.std.specs.List.{range_with_len};
 ghost use Rattle.nego_base.specs.Members.{is_in};
 ghost use Rattle.nego_base.specs.Name.{is_name};
+ghost use Rattle.nego_data.specs.Data.{data_count};
+ghost use Rattle.nego_data.specs.Tables.{IsTable, is_related};
 ghost use Rattle.nego_model.specs.Negotiation.{IsOutcome};
 ghost use Rattle.nego_model.specs.Diagram.{IsDiagram, negotiation_of, relation_of, agent_name, atom_name, outcome_name, parties_of, leader_of, outcomes_from, atom_of, nexts_of, outcome_table};
 ghost use Rattle.nego_model.specs.Limits.{IsWithinLimits, HasNames, AreInOrder};
@@ -150,7 +152,8 @@ impl Diagram {
     pub fn table(&self, o: OutcomeId) -> &Table
         requires { o.0 < length self.now.outcomes }
         ensures value { result.now ≡ outcome_table self.now o.0 }
-        ensures relation { (d e : ℕ) → relation_of self.now o.0 d e ≡ is_in e (slice_index_or result.now d []) }
+        ensures relation { (d e : ℕ) → relation_of self.now o.0 d e ≡ is_related result.now d e }
+        ensures rows { IsTable (data_count self.now.sizes) result.now }
     {
         &self.parts.outcomes[o.0 as usize].table
     }
