@@ -14,4 +14,6 @@ pub mod Alike
 pub mod Diagrams
 pub mod OneAtom
 pub mod OneCase
+pub mod Readers
+pub mod Making
 mod Examples

@@ -1,5 +1,5 @@
 -- A diagram as plain data, the negotiation that it is, and when plain data are a diagram.
-use Rattle.std.specs.Prelude.{◌≡◌, ℕ, ◌+◌, ◌<◌, false, ◌==◌, if◌then◌else◌, List, [], ◌∷◌, length, slice_get, slice_index_or, All}
+use Rattle.std.specs.Prelude.{◌≡◌, ℕ, ◌+◌, ◌<◌, false, ◌==◌, if◌then◌else◌, List, [], ◌∷◌, length, slice_get, slice_index, slice_index_or, All}
 use Rattle.std.specs.List.{range_with_len}
 use Rattle.std.specs.Option.{option_map_or}
 use Rattle.nego_base.specs.Members.{is_in}
@@ -32,14 +32,30 @@ pub record PlainDiagram : Type 0 where
   pub first : ℕ
   pub last : ℕ
 
+-- the name of an agent
+abbrev pub agent_name : PlainDiagram → ℕ → List ℕ
+agent_name diagram a = slice_index_or diagram.agents a []
+
+-- the name of an atom
+abbrev pub atom_name : PlainDiagram → ℕ → List ℕ
+atom_name diagram n = option_map_or (λ atom. atom.name) (slice_get diagram.atoms n) []
+
 -- the parties of an atom
 abbrev pub parties_of : PlainDiagram → ℕ → List ℕ
 parties_of diagram n = option_map_or (λ atom. atom.parties) (slice_get diagram.atoms n) []
+
+-- the leader of an atom: the first of its parties, which is the least
+abbrev pub leader_of : PlainDiagram → ℕ → ℕ
+leader_of diagram n = slice_index (parties_of diagram n) 0
 
 -- the numbers of the outcomes of an atom, of the outcomes from number o on
 abbrev pub outcomes_from : ℕ → List PlainOutcome → ℕ → List ℕ
 outcomes_from o [] n = []
 outcomes_from o (outcome ∷ outcomes) n = if outcome.atom == n then o ∷ outcomes_from (o + 1) outcomes n else outcomes_from (o + 1) outcomes n
+
+-- the atom of an outcome
+abbrev pub atom_of : PlainDiagram → ℕ → ℕ
+atom_of diagram o = option_map_or (λ outcome. outcome.atom) (slice_get diagram.outcomes o) 0
 
 -- the next atoms of an agent after an outcome
 abbrev pub nexts_of : PlainDiagram → ℕ → ℕ → List ℕ
@@ -48,6 +64,10 @@ nexts_of diagram o a = option_map_or (λ outcome. slice_index_or outcome.nexts a
 -- the name of an outcome
 abbrev pub outcome_name : PlainDiagram → ℕ → List ℕ
 outcome_name diagram o = option_map_or (λ outcome. outcome.name) (slice_get diagram.outcomes o) []
+
+-- the table of an outcome
+abbrev pub outcome_table : PlainDiagram → ℕ → List (List ℕ)
+outcome_table diagram o = option_map_or (λ outcome. outcome.table) (slice_get diagram.outcomes o) []
 
 -- the negotiation that a diagram is
 abbrev pub negotiation_of : PlainDiagram → Negotiation

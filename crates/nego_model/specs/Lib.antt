@@ -5,5 +5,7 @@ pub mod Reaching
 pub mod Locality
 pub mod Expression
 pub mod Diagram
+pub mod Limits
+pub mod Parts
 pub mod Summary
 pub mod Laws
