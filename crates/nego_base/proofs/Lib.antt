@@ -2,4 +2,4 @@ pub mod Bits
 pub mod Cases
 pub mod LineLaws
 pub mod Members
-pub mod Tests
+pub mod BoolLaws

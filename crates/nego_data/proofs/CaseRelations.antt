@@ -18,7 +18,7 @@ use Rattle.nego_data.specs.Data.{data_count, split, joint}
 use Rattle.nego_data.specs.Cases.{rows_of, compares, operand_value, test_holds, gives, term_for, covers, agent_follows, agents_follow, case_relates, relates}
 use Rattle.nego_data.specs.CaseForm.{operand_agents, term_agents, AreAmong, NamesOnly, FitsSize, AssignsBelow, IsCovered}
 use Rattle.nego_data.specs.Locality.{AgreeOn, ActsOn}
-use Rattle.nego_base.proofs.Tests.{passing_item, any_passes, all_pass}
+use Rattle.nego_base.proofs.BoolLaws.{passing_item, any_passes, all_pass}
 use Rattle.nego_data.proofs.JointData.{length-split, split-below, AreValues, joint-below, split-joint}
 use Rattle.nego_data.proofs.Tables.{relates-on_data, rows_of-relates}
 use Rattle.nego_data.proofs.Acting.{ActsOn-same}

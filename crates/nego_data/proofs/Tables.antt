@@ -12,7 +12,7 @@ use Rattle.nego_data.specs.Data.{data_count, split}
 use Rattle.nego_data.specs.Tables.{IsTable, is_related, rows_by}
 use Rattle.nego_data.specs.Cases.{relates, case_relates, rows_of}
 use Rattle.nego_base.proofs.Members.{All-member, All-members, is_in-filter, is_in-range_zero, is_in-with, is_in_none, rises-filter, rises-range, same_below, with-rises}
-use Rattle.nego_base.proofs.Tests.{same_tests}
+use Rattle.nego_base.proofs.BoolLaws.{same_tests}
 
 -- a row of a table has joint data alone
 pub row-on_data : (count : ℕ) (table : List (List ℕ)) (d e : ℕ) → IsTable count table → d < count → IsTrue (is_in e (slice_index_or table d [])) → e < count
