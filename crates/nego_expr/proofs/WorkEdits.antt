@@ -1,5 +1,5 @@
 -- Laws of the alive outcomes of a work: what is found among them by its number, before and after an edit.
-use Rattle.std.proofs.Common.{◌≡◌, ◌≢◌, ◌⊎◌, inl, inr, ⊎_elim, ℕ, suc, ◌+◌, ◌<◌, ◌≤◌, Bool, true, false, not, ◌==◌, cond, List, [], ◌∷◌, ◌++◌, length, map, option_map, slice_get, Option, Some, None, IsTrue, refl, sym, subst, ap, ap₂, ◌∙◌, arith, eq-eqb, ne_eqb, eqb-true, add-zero}
+use Rattle.std.proofs.Common.{◌≡◌, ◌≢◌, ◌⊎◌, inl, inr, ⊎_elim, ℕ, suc, ◌+◌, ◌≤◌, Bool, true, false, not, ◌==◌, cond, List, [], ◌∷◌, ◌++◌, length, map, option_map, slice_get, Option, Some, None, IsTrue, refl, sym, subst, ap, ap₂, ◌∙◌, arith, eq-eqb, ne_eqb, eqb-true, add-zero}
 use Rattle.std.proofs.lemmas.Bool.{cond-true, cond-false, cases_eq, true≢false}
 use Rattle.std.proofs.lemmas.Option.{none-some, same_Some, slice_get_within, get_or_from_slice_get}
 use Rattle.std.proofs.lemmas.List.Elements.{All-nil, All-cons, All-head, All-tail, All-filter, All-get_or}

@@ -191,6 +191,6 @@ pub Runs-alike_outcomes : (one : Negotiation) (relation : Relation) (two : Negot
 Runs-alike_outcomes one relation two relation' alike ok single ok' related f d e final =
     Runs-same one relation two relation' Anywhere (SameAtoms-alike one two alike) ok single ok' tt (λ from to step p h. tt)
     (λ from to c b step p h r.
-      Reaches_one two relation' from c to b step (after-alike one two alike from to step h) (related step.0 step.1 c b (after-outcome one from step to h) r))
+    Reaches_one two relation' from c to b step (after-alike one two alike from to step h) (related step.0 step.1 c b (after-outcome one from step to h) r))
     f (λ h. subst (λ n. IsTrue (is_in f (two.outcomes n))) alike.last (IsOutcome-alike one two alike one.last f h).1)
     (λ c b r. related one.last f c b (ok.last_there, final) r) d e
