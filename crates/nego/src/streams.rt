@@ -7,7 +7,7 @@ use std::io::{Read, Write};
 
 /// A source that takes from a reader. Each error of the reader is a fault.
 #[derive(Drop)]
-pub struct ReaderSource<R: Read> {
+pub(crate) struct ReaderSource<R: Read> {
     pub reader: R,
     pub faults: u64,
 }
@@ -38,7 +38,7 @@ impl<R: Read> Source for ReaderSource<R> {
 
 /// A sink that puts into a writer. Each error of the writer is a fault, and so is a piece of which nothing is taken.
 #[derive(Drop)]
-pub struct WriterSink<W: Write> {
+pub(crate) struct WriterSink<W: Write> {
     pub writer: W,
     pub faults: u64,
 }

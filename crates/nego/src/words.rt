@@ -23,7 +23,7 @@ fn word_at(rt: &(impl Env + AllocGlobal), i: usize) -> Result<Option<Text>, Memo
 }
 
 /// The arguments behind the program's name.
-pub fn words_of(rt: &(impl Env + AllocGlobal)) -> Result<Seq<Text>, Memory> {
+pub(crate) fn words_of(rt: &(impl Env + AllocGlobal)) -> Result<Seq<Text>, Memory> {
     let mut words = Seq::new(rt.alloc());
     for i in 1..usize::MAX {
         match word_at(rt, i)? {
