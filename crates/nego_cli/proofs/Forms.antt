@@ -154,7 +154,7 @@ below_value : (size : ℕ) (value : Option ℕ) → IfSome value (λ v. v < size
 below_value size None below = refl
 below_value size (Some v) below = lt-ltb v size below
 
-value_small : (size : ℕ) (value : Option ℕ) → size ≤ 64 → IfSome value (λ v. v < size) → IfSome value (λ v. v < 100)
+pub value_small : (size : ℕ) (value : Option ℕ) → size ≤ 64 → IfSome value (λ v. v < size) → IfSome value (λ v. v < 100)
 value_small size None high below = tt
 value_small size (Some v) high below = omega arith
 

@@ -60,7 +60,7 @@ refuted true no-way = absurd (no-way refl)
 refuted false no-way = refl
 
 -- no byte of a name is another one
-other_byte : (end b : ℕ) → is_name_byte end ≡ false → is_name_byte b ≡ true → eqb b end ≡ false
+pub other_byte : (end b : ℕ) → is_name_byte end ≡ false → is_name_byte b ≡ true → eqb b end ≡ false
 other_byte end b other h =
     refuted (eqb b end) (λ e.
     let same : is_name_byte b ≡ is_name_byte end = ap (λ (x : ℕ). is_name_byte x) (eqb-true b end e) in
@@ -72,7 +72,7 @@ place_again end (b ∷ bs) rest other h =
     let parts = and_parts (is_name_byte b) (list_all is_name_byte bs) h in
     rw (other_byte end b other parts.0, place_again end bs rest other parts.1) (omega arith)
 
-name_bytes : (name : List ℕ) → IsTrue (is_name name) → list_all is_name_byte name ≡ true
+pub name_bytes : (name : List ℕ) → IsTrue (is_name name) → list_all is_name_byte name ≡ true
 unfolding is_name
 name_bytes name h = (and_parts _ (list_all is_name_byte name) h).1
 

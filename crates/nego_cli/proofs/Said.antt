@@ -1,5 +1,5 @@
 -- What was found and put out is what the status says, and no other status could be.
-use Rattle.std.proofs.Common.{◌≡◌, ◌≢◌, ◌⊎◌, ℕ, List, [], refl, sym, ap, subst, ◌∙◌, inl, inr}
+use Rattle.std.proofs.Common.{◌≡◌, ◌≢◌, ◌⊎◌, ℕ, List, [], ◌++◌, refl, sym, ap, subst, ◌∙◌, inl, inr}
 use Rattle.std.proofs.lemmas.Option.{same_Some}
 use Rattle.nego_io.specs.Outside.{WhereTold}
 use Rattle.nego_io.specs.Part.{Whole, reading}
@@ -15,6 +15,7 @@ use Rattle.nego_cli.specs.Texts.{reduction_text, usage_line, read_fault_line, me
 use Rattle.nego_cli.specs.Reading.{form_at}
 use Rattle.nego_cli.specs.Answer.{Change, Failed, Put, PutFront, Reply, Reduced, BadWords, Refuses, ReadFails, MemoryFails, Causes, reduce_words, status_of, IsReason, IsFault, Says, OutFails, ErrFails}
 use Rattle.nego_cli.specs.Handed.{IsFound, LinePut, IsDelivered}
+use Rattle.nego_cli.proofs.Closed.{small_read}
 use Rattle.nego_cli.proofs.Forms.{form_again}
 use Rattle.nego_cli.proofs.Found.{told_then}
 
@@ -32,8 +33,8 @@ line_said words source out err line wanted status reason nothing said (inr (e, f
 
 pub what_is_said : (words : List (List ℕ)) (source out err : Change) (answer : Answer) (status : Status) → IsFound words source answer → IsDelivered answer out err status → Says words source out err status
 what_is_said words source out err (answers.Reduced text) statuses.Done (form, text_is, due) (put, nothing) = (form, due, subst (λ (t : List ℕ). Put t out) text_is put, nothing)
-what_is_said words source out err (answers.Reduced text) statuses.WriteFault (form, text_is, due) (failed, front, tried, told) =
-    inl (record { form = form; due = due; failed = failed; front = subst (λ (t : List ℕ). PutFront t out) text_is front; tried = tried; told = told })
+what_is_said words source out err (answers.Reduced text) statuses.WriteFault (form, text_is, due) (failed, front, told) =
+    inl (record { form = form; due = due; failed = failed; front = subst (λ (t : List ℕ). PutFront t out) text_is front; told = told })
 what_is_said words source out err (answers.Reduced text) statuses.Words found delivered = absurd delivered
 what_is_said words source out err (answers.Reduced text) statuses.Refused found delivered = absurd delivered
 what_is_said words source out err (answers.Reduced text) statuses.ReadFault found delivered = absurd delivered
@@ -57,18 +58,18 @@ right_words words input refusals.NotYet cause = cause.0
 
 -- a form is not refused
 not_refused : (words : List (List ℕ)) (input : List ℕ) (form : SmallForm) (why : Refusal) → Causes words input (Reduced form) → Causes words input (Refuses why) → ⊥
-not_refused words input form refusals.TooLong (right, small, (left, read)) (right', past) = let apart : Whole (small_text form) left ≡ _ = sym read ∙ past in cc
-not_refused words input form (refusals.NoEnd line) (right, small, (left, read)) (right', unended) = let apart : Whole (small_text form) left ≡ _ = sym read ∙ unended in cc
-not_refused words input form refusals.NotYet (right, small, (left, read)) (right', (part, left', read', other)) =
+not_refused words input form refusals.TooLong (right, small, (left, all, read)) (right', past) = let apart : Whole (small_text form) left ≡ _ = sym read ∙ past in cc
+not_refused words input form (refusals.NoEnd line) (right, small, (left, all, read)) (right', unended) = let apart : Whole (small_text form) left ≡ _ = sym read ∙ unended in cc
+not_refused words input form refusals.NotYet (right, small, (left, all, read)) (right', (part, left', read', other)) =
     let same : Whole part left' ≡ Whole (small_text form) left = sym read' ∙ read in
     other form small cc
 
 -- all causes that stand together have one status
 one_status : (words : List (List ℕ)) (input : List ℕ) (reply other : Reply) → Causes words input reply → Causes words input other → status_of reply ≡ status_of other
 one_status words input BadWords BadWords cause cause' = refl
-one_status words input BadWords (Reduced form) wrong (right, small, (left, read)) = absurd (wrong right)
+one_status words input BadWords (Reduced form) wrong (right, small, (left, all, read)) = absurd (wrong right)
 one_status words input BadWords (Refuses why) wrong cause = absurd (wrong (right_words words input why cause))
-one_status words input (Reduced form) BadWords (right, small, (left, read)) wrong = absurd (wrong right)
+one_status words input (Reduced form) BadWords (right, small, (left, all, read)) wrong = absurd (wrong right)
 one_status words input (Reduced form) (Reduced form') cause cause' = refl
 one_status words input (Reduced form) (Refuses why) cause cause' = absurd (not_refused words input form why cause cause')
 one_status words input (Refuses why) BadWords cause wrong = absurd (wrong (right_words words input why cause))
@@ -124,7 +125,7 @@ one_reading form other input left left' small small' e f =
 
 abbrev IsComplete : List (List ℕ) → Change → Change → Change → Status → List ℕ → List ℕ → Type 0
 IsComplete words source out err status input _ =
-    (form : SmallForm) (left : List ℕ) → words ≡ reduce_words → IsSmall form → reading PART_LIMIT input ≡ Whole (small_text form) left →
+    (form : SmallForm) (left : List ℕ) → words ≡ reduce_words → IsSmall form → input ≡ small_text form ++ left →
     ¬ Failed source → ¬ Failed out → ¬ Failed err → ((status ≡ statuses.Done) × Put (reduction_text (summary_of form)) out) ⊎ (status ≡ statuses.Memory)
 
 write_failed : (words : List (List ℕ)) (source out err : Change) → OutFails words source out err ⊎ ErrFails words source out err → ¬ Failed out → ¬ Failed err → ⊥
@@ -133,18 +134,18 @@ write_failed words source out err (inr fails) out_well err_well = err_well fails
 
 pub complete_told : (words : List (List ℕ)) (source out err : Change) (status : Status) → Says words source out err status → WhereTold source.before source.after (IsComplete words source out err status)
 complete_told words source out err statuses.Done (form, due, put, nothing) =
-    told_then source.before source.after _ (IsComplete words source out err statuses.Done) (λ input after known other left right small read source_well out_well err_well.
-    let (right', small', (left', read')) = known.0 in
-    inl (refl, subst (λ (f : SmallForm). Put (reduction_text (summary_of f)) out) (one_reading form other input left' left small' small read' read) put)) due.input
+    told_then source.before source.after _ (IsComplete words source out err statuses.Done) (λ input after known other left right small all source_well out_well err_well.
+    let (right', small', (left', all', read')) = known.0 in
+    inl (refl, subst (λ (f : SmallForm). Put (reduction_text (summary_of f)) out) (one_reading form other input left' left small' small read' (small_read other input left small all)) put)) due.input
 complete_told words source out err statuses.Words (due, nothing, put) =
-    told_then source.before source.after _ (IsComplete words source out err statuses.Words) (λ input after known other left right small read source_well out_well err_well. absurd (known.0 right)) due.input
+    told_then source.before source.after _ (IsComplete words source out err statuses.Words) (λ input after known other left right small all source_well out_well err_well. absurd (known.0 right)) due.input
 complete_told words source out err statuses.Refused (why, due, nothing, put) =
-    told_then source.before source.after _ (IsComplete words source out err statuses.Refused) (λ input after known other left right small read source_well out_well err_well.
-    absurd (not_refused words input other why (right, small, (left, read)) known.0)) due.input
+    told_then source.before source.after _ (IsComplete words source out err statuses.Refused) (λ input after known other left right small all source_well out_well err_well.
+    absurd (not_refused words input other why (right, small, (left, all, small_read other input left small all)) known.0)) due.input
 complete_told words source out err statuses.ReadFault (trouble, nothing, put) =
-    told_then source.before source.after _ (IsComplete words source out err statuses.ReadFault) (λ input after known other left right small read source_well out_well err_well. absurd (source_well trouble.1)) trouble.2
+    told_then source.before source.after _ (IsComplete words source out err statuses.ReadFault) (λ input after known other left right small all source_well out_well err_well. absurd (source_well trouble.1)) trouble.2
 complete_told words source out err statuses.WriteFault said =
-    told_then source.before source.after _ (IsComplete words source out err statuses.WriteFault) (λ input after known other left right small read source_well out_well err_well.
+    told_then source.before source.after _ (IsComplete words source out err statuses.WriteFault) (λ input after known other left right small all source_well out_well err_well.
     absurd (write_failed words source out err said out_well err_well)) (write_told words source out err said)
 complete_told words source out err statuses.Memory (trouble, nothing, put) =
-    told_then source.before source.after _ (IsComplete words source out err statuses.Memory) (λ input after known other left right small read source_well out_well err_well. inr refl) trouble
+    told_then source.before source.after _ (IsComplete words source out err statuses.Memory) (λ input after known other left right small all source_well out_well err_well. inr refl) trouble

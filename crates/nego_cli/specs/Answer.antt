@@ -1,7 +1,8 @@
 -- What the top call answers: each status with its cause, what it put out, and what it left unread.
-use Rattle.std.specs.Prelude.{◌≡◌, ◌≢◌, ◌⊎◌, ℕ, ◌+◌, ◌≤◌, List, [], ◌∷◌, ◌++◌, length, drop, Option, codes}
+use Rattle.std.specs.Prelude.{◌≡◌, ◌≢◌, ◌⊎◌, ℕ, List, [], ◌∷◌, ◌++◌, Option, codes}
 use Rattle.nego_io.specs.Outside.{Rose, WhereTold, Puts, PutsFront}
-use Rattle.nego_io.specs.Part.{Reading, Whole, PastLimit, Unended, reading}
+use Rattle.nego_io.specs.Answer.{TakesWithin}
+use Rattle.nego_io.specs.Part.{Whole, PastLimit, Unended, behind, reading}
 use Rattle.nego_model.specs.Diagram.{IsDiagram}
 use Rattle.nego_model.specs.Summary.{Tells}
 use Rattle.nego_cli.specs.declared.refusal.Refusal.{Refusal}
@@ -30,9 +31,13 @@ Failed object = Rose object.faults_before object.faults_after
 abbrev pub Put : List ℕ → Change → Type 0
 Put text object = Puts text object.before object.after
 
--- A front of these bytes was put, and no others.
+-- A front of these bytes, but not all, was put, and no others.
 abbrev pub PutFront : List ℕ → Change → Type 0
 PutFront text object = PutsFront text object.before object.after
+
+-- These bytes were put, or a front of them where the count of faults rose, and no others.
+abbrev pub Tried : List ℕ → Change → Type 0
+Tried text object = (Failed object × PutFront text object) ⊎ Put text object
 
 -- the words that are a command today
 abbrev pub reduce_words : List (List ℕ)
@@ -47,23 +52,18 @@ pub data Reply : Type 0 where
 -- The words and the input are the cause of the reply.
 abbrev pub Causes : List (List ℕ) → List ℕ → Reply → Type 0
 Causes words input BadWords = words ≢ reduce_words
-Causes words input (Reduced form) = (words ≡ reduce_words) × IsSmall form × ((left : List ℕ) × (reading PART_LIMIT input ≡ Whole (small_text form) left))
+Causes words input (Reduced form) =
+    (words ≡ reduce_words) × IsSmall form × ((left : List ℕ) × (input ≡ small_text form ++ left) × (reading PART_LIMIT input ≡ Whole (small_text form) left))
 Causes words input (Refuses refusals.TooLong) = (words ≡ reduce_words) × (reading PART_LIMIT input ≡ PastLimit)
 Causes words input (Refuses (refusals.NoEnd line)) = (words ≡ reduce_words) × (reading PART_LIMIT input ≡ Unended line)
 Causes words input (Refuses refusals.NotYet) =
     (words ≡ reduce_words) × ((part left : List ℕ) × (reading PART_LIMIT input ≡ Whole part left) × ((form : SmallForm) → IsSmall form → part ≢ small_text form))
 
--- what is left of an input behind what is taken of it for a part
-abbrev pub behind : List ℕ → Reading → List ℕ
-behind input (Whole part left) = left
-behind input PastLimit = drop (PART_LIMIT + 1) input
-behind input (Unended line) = []
-
 -- what a reply leaves of an input
 abbrev pub left_by : Reply → List ℕ → List ℕ
 left_by BadWords input = input
-left_by (Reduced form) input = behind input (reading PART_LIMIT input)
-left_by (Refuses why) input = behind input (reading PART_LIMIT input)
+left_by (Reduced form) input = behind PART_LIMIT input
+left_by (Refuses why) input = behind PART_LIMIT input
 
 -- What a reply says of the words and, where it is a reduction, of the diagram: whatever the source tells.
 abbrev pub Holds : List (List ℕ) → Reply → Type 0
@@ -77,9 +77,9 @@ pub record IsDue (words : List (List ℕ)) (source : Change) (reply : Reply) : T
   pub holds : Holds words reply
   pub input : WhereTold source.before source.after (λ input left. Causes words input reply × (left ≡ left_by reply input))
 
--- At most one byte more than a part may have was taken, from the front.
-abbrev pub TookSome : Change → Type 0
-TookSome source = WhereTold source.before source.after (λ input left. (taken : List ℕ) × (input ≡ taken ++ left) × (length taken ≤ PART_LIMIT + 1))
+-- Nothing of what is behind the diagram was taken, so at most one byte more than a part may have.
+abbrev pub TookWithin : Change → Type 0
+TookWithin source = WhereTold source.before source.after (TakesWithin PART_LIMIT)
 
 -- a line for `err` that no reply of the input is
 pub data Trouble : Type 0 where
@@ -88,8 +88,8 @@ pub data Trouble : Type 0 where
 
 -- The trouble has its cause.
 abbrev pub IsTrouble : List (List ℕ) → Change → Trouble → Type 0
-IsTrouble words source ReadFails = (words ≡ reduce_words) × Failed source × TookSome source
-IsTrouble words source MemoryFails = TookSome source
+IsTrouble words source ReadFails = (words ≡ reduce_words) × Failed source × TookWithin source
+IsTrouble words source MemoryFails = TookWithin source
 
 abbrev pub trouble_line : Trouble → List ℕ
 trouble_line ReadFails = read_fault_line
@@ -102,15 +102,14 @@ IsReason words source line =
     ⊎ (((why : Refusal) × (line ≡ refusal_line why) × IsDue words source (Refuses why))
     ⊎ ((trouble : Trouble) × (line ≡ trouble_line trouble) × IsTrouble words source trouble))
 
--- Writing the text failed: a front of it is on `out`, and the line of the write fault was tried on `err`, where it
--- stands whole if the count of `err` didn't rise.
+-- Writing the text failed: a front of it is on `out`, and the line of the write fault is on `err`, or a front of it where
+-- that failed too.
 pub record OutFails (words : List (List ℕ)) (source out err : Change) : Type 0 where
   pub form : SmallForm
   pub due : IsDue words source (Reduced form)
   pub failed : Failed out
   pub front : PutFront (reduction_text (summary_of form)) out
-  pub tried : PutFront write_fault_line err
-  pub told : Failed err ⊎ Put write_fault_line err
+  pub told : Tried write_fault_line err
 
 -- Writing a line failed: a front of it is on `err`, and nothing on `out`.
 pub record ErrFails (words : List (List ℕ)) (source out err : Change) : Type 0 where
@@ -121,17 +120,17 @@ pub record ErrFails (words : List (List ℕ)) (source out err : Change) : Type 0
   pub nothing : Put [] out
 
 -- The line with its cause is on `err`, and nothing on `out`.
-abbrev pub Tells_trouble : List (List ℕ) → Change → Change → Change → Trouble → Type 0
-Tells_trouble words source out err trouble = IsTrouble words source trouble × Put [] out × Put (trouble_line trouble) err
+abbrev pub ShowsTrouble : List (List ℕ) → Change → Change → Change → Trouble → Type 0
+ShowsTrouble words source out err trouble = IsTrouble words source trouble × Put [] out × Put (trouble_line trouble) err
 
 -- What each status says.
 abbrev pub Says : List (List ℕ) → Change → Change → Change → Status → Type 0
 Says words source out err statuses.Done = (form : SmallForm) × IsDue words source (Reduced form) × Put (reduction_text (summary_of form)) out × Put [] err
 Says words source out err statuses.Words = IsDue words source BadWords × Put [] out × Put usage_line err
 Says words source out err statuses.Refused = (why : Refusal) × IsDue words source (Refuses why) × Put [] out × Put (refusal_line why) err
-Says words source out err statuses.ReadFault = Tells_trouble words source out err ReadFails
+Says words source out err statuses.ReadFault = ShowsTrouble words source out err ReadFails
 Says words source out err statuses.WriteFault = OutFails words source out err ⊎ ErrFails words source out err
-Says words source out err statuses.Memory = Tells_trouble words source out err MemoryFails
+Says words source out err statuses.Memory = ShowsTrouble words source out err MemoryFails
 
 -- the status of a reply
 abbrev pub status_of : Reply → Status

@@ -8,7 +8,7 @@ use Rattle.nego_cli.specs.declared.status.Status.{Status}
 use Rattle.nego_cli.specs.declared.status.Status.TheVariants as statuses
 use Rattle.nego_cli.specs.Small.{SmallForm, IsSmall, small_text, summary_of}
 use Rattle.nego_cli.specs.Texts.{reduction_text, usage_line, refusal_line, read_fault_line, write_fault_line, memory_line}
-use Rattle.nego_cli.specs.Answer.{Change, Failed, Put, PutFront, Reduced, BadWords, Refuses, ReadFails, MemoryFails, IsDue, IsTrouble}
+use Rattle.nego_cli.specs.Answer.{Change, Failed, Put, PutFront, Tried, Reduced, BadWords, Refuses, ReadFails, MemoryFails, IsDue, IsTrouble}
 
 -- The answer has its cause in the words and what was taken of the source.
 abbrev pub IsFound : List (List ℕ) → Change → Answer → Type 0
@@ -38,7 +38,7 @@ IsReduction part answers.ReadFault = ⊥
 -- What is on `out` and `err` after a text was put on `out`, by the status.
 abbrev pub TextPut : List ℕ → Change → Change → Status → Type 0
 TextPut text out err statuses.Done = Put text out × Put [] err
-TextPut text out err statuses.WriteFault = Failed out × PutFront text out × PutFront write_fault_line err × (Failed err ⊎ Put write_fault_line err)
+TextPut text out err statuses.WriteFault = Failed out × PutFront text out × Tried write_fault_line err
 TextPut text out err statuses.Words = ⊥
 TextPut text out err statuses.Refused = ⊥
 TextPut text out err statuses.ReadFault = ⊥

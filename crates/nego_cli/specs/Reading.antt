@@ -1,4 +1,5 @@
--- Reading the small form from left to right: what each piece gives, and the bytes behind it.
+-- Reading the small form from left to right: what each piece gives, and the bytes behind it. Only the private readers
+-- name these; what is read is told by the form's printed text alone.
 use Rattle.std.specs.Prelude.{ℕ, ◌+◌, ◌-◌, ◌*◌, Bool, true, ◌&&◌, ◌==◌, nat_lt, nat_le, if◌then◌else◌, List, [], ◌∷◌, length, take, drop, position, Option, Some, None, codes}
 use Rattle.std.specs.Option.{option_and_then, option_map_or}
 use Rattle.std.specs.Str.{bytes_eq}

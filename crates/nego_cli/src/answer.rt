@@ -1,6 +1,6 @@
 //! Finds the answer to words and input, as a text or a line that is still to be written.
 
-ghost use Rattle.std.specs.Prelude.{◌≡◌, ◌↔◌, ◌≤◌, ◌∷◌, IsTrue, codes};
+ghost use Rattle.std.specs.Prelude.{◌≡◌, ◌≢◌, ◌↔◌, ◌≤◌, ◌∷◌, IsTrue, codes};
 ghost use Rattle.nego_cli.specs.Answer.{change, reduce_words};
 ghost use Rattle.nego_cli.specs.Handed.{IsFound, IsRefusal, IsReduction};
 
@@ -68,6 +68,7 @@ fn reduce(alloc: Global, part: &[u8]) -> Answer
 /// Finds the answer; takes a part of the source where the words are a command.
 pub fn find_answer<S: Source>(alloc: Global, words: &[Text], source: &mut S) -> Answer
     ensures found { IsFound words.now (change S.left S.faults source.old source.new) result }
+    ensures untouched { words.now ≢ reduce_words → source.new ≡ source.old }
     ensures later { S.faults source.old ≤ S.faults source.new }
 {
     if !are_reduce(words) {

@@ -1,7 +1,7 @@
 //! Puts an answer on `out` or `err`.
 
-ghost use Rattle.std.specs.Prelude.{◌≡◌, ◌≤◌};
-ghost use Rattle.nego_cli.specs.Answer.{change};
+ghost use Rattle.std.specs.Prelude.{◌≡◌, ◌⊎◌, ◌≤◌};
+ghost use Rattle.nego_cli.specs.Answer.{Failed, change};
 ghost use Rattle.nego_cli.specs.Handed.{TextPut, LinePut, IsDelivered};
 
 use crate::Status;
@@ -11,6 +11,7 @@ use nego_io::{Sink, WriteFault, put_all};
 /// Puts a text on `out`. Where that fails, the line of the write fault is tried on `err`, and its failure changes nothing.
 fn put_text<O: Sink, E: Sink>(text: &[u8], out: &mut O, err: &mut E) -> Status
     ensures put { TextPut text.now (change O.taken O.faults out.old out.new) (change E.taken E.faults err.old err.new) result }
+    ensures err_untouched { result ≡ Status.Done → err.new ≡ err.old }
     ensures out_faults { O.faults out.old ≤ O.faults out.new }
     ensures err_faults { E.faults err.old ≤ E.faults err.new }
 {
@@ -39,6 +40,9 @@ const USAGE: &[u8] =
 /// Puts the answer out: a text on `out`, a line on `err`.
 pub fn deliver<O: Sink, E: Sink>(answer: &Answer, out: &mut O, err: &mut E) -> Status
     ensures delivered { IsDelivered answer.now (change O.taken O.faults out.old out.new) (change E.taken E.faults err.old err.new) result }
+    ensures out_untouched { (result ≡ Status.Done)
+        ⊎ (((result ≡ Status.WriteFault) × Failed (change O.taken O.faults out.old out.new)) ⊎ (out.new ≡ out.old)) }
+    ensures err_untouched { result ≡ Status.Done → err.new ≡ err.old }
     ensures out_faults { O.faults out.old ≤ O.faults out.new }
     ensures err_faults { E.faults err.old ≤ E.faults err.new }
 {

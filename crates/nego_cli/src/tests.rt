@@ -7,9 +7,9 @@ use std::test::Fail;
 /// A call over memory, and what comes of it.
 struct Row {
     words: &'static [&'static [u8]],
-    /// The input's first bytes, and how many bytes `#` stand behind them.
-    input: &'static [u8],
+    /// How many bytes `#` the input begins with, and its other bytes.
     hashes: usize,
+    input: &'static [u8],
     /// The numbers of the calls of the source and of `out` that fail, counted from 0.
     source_fails: &'static [u64],
     out_fails: &'static [u64],
@@ -25,8 +25,8 @@ const SET: &[u8] =
 
 const REDUCED: Row = Row {
     words: &[b"reduce"],
-    input: SET,
     hashes: 0,
+    input: SET,
     source_fails: &[],
     out_fails: &[],
     status: 0,
@@ -49,7 +49,7 @@ const BAD_WORDS: Row = Row {
     ..REDUCED
 };
 
-static ROWS: [Row; 11] = [
+static ROWS: [Row; 13] = [
     REDUCED,
     Row {
         input: b"nego 1\nagent a 2\natom only a\nout set\ncase : a:=1\nfirst only\nlast only\nend\nend\nmore",
@@ -67,8 +67,20 @@ static ROWS: [Row; 11] = [
         ..REFUSED
     },
     Row {
-        input: b"",
         hashes: 262_145,
+        input: b"",
+        err: b"refused diagram TooLong\n",
+        ..REFUSED
+    },
+    Row {
+        hashes: 262_140,
+        input: b"\nend",
+        err: b"refused diagram not yet\n",
+        ..REFUSED
+    },
+    Row {
+        hashes: 262_140,
+        input: b"\nend\n",
         err: b"refused diagram TooLong\n",
         ..REFUSED
     },
@@ -114,8 +126,8 @@ fn words_of(alloc: Global, words: &[&[u8]]) -> Result<Seq<Text>, Memory> {
 }
 
 fn input_of(alloc: Global, row: &Row) -> Result<Text, Memory> {
-    let mut input = Text::copy(alloc, row.input)?;
-    input.append(&mut Seq::from_vec(vec![in alloc; b'#'; row.hashes]?))?;
+    let mut input = Seq::from_vec(vec![in alloc; b'#'; row.hashes]?);
+    input.extend_from_slice(row.input)?;
     Ok(input)
 }
 

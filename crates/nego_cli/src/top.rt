@@ -1,8 +1,7 @@
 //! The top call.
 
-ghost use Rattle.std.specs.Prelude.{◌≡◌, ◌≢◌, ◌⊎◌, ℕ, ◌≤◌, List};
+ghost use Rattle.std.specs.Prelude.{◌≡◌, ◌≢◌, ◌⊎◌, ℕ, ◌≤◌, List, ◌++◌};
 ghost use Rattle.nego_io.specs.Outside.{Rose, WhereTold};
-ghost use Rattle.nego_io.specs.Part.{Whole, reading};
 ghost use Rattle.nego_cli.specs.Small.{SmallForm, IsSmall, small_text, summary_of};
 ghost use Rattle.nego_cli.specs.Texts.{reduction_text};
 ghost use Rattle.nego_cli.specs.Answer.{Reply, Reduced, Causes, Failed, Says, IsFault, Put, change, reduce_words, status_of};
@@ -32,12 +31,19 @@ pub fn nego<S: Source, O: Sink, E: Sink>(
     ensures words_exactly { words.now ≢ reduce_words → (result ≡ Status.Words) ⊎ IsFault result }
     ensures exactly { WhereTold (S.left source.old) (S.left source.new) (λ input _. (reply : Reply) → Causes words.now input reply → (result ≡ status_of reply) ⊎ IsFault result) }
 
-    // Where the words are right, the input begins with a part of the small form and no count rose, the answer is
-    // that of the form, or want of memory.
+    // Where the words are right, the input begins with the printed text of a small form and no count rose, the answer
+    // is that of the form, or want of memory.
     ensures complete { WhereTold (S.left source.old) (S.left source.new) (λ input _. (form : SmallForm) (left : List ℕ) →
-        words.now ≡ reduce_words → IsSmall form → reading PART_LIMIT input ≡ Whole (small_text form) left →
+        words.now ≡ reduce_words → IsSmall form → input ≡ small_text form ++ left →
         ¬ Failed (change S.left S.faults source.old source.new) → ¬ Failed (change O.taken O.faults out.old out.new) → ¬ Failed (change E.taken E.faults err.old err.new) →
         ((result ≡ Status.Done) × Put (reduction_text (summary_of form)) (change O.taken O.faults out.old out.new)) ⊎ (result ≡ Status.Memory)) }
+
+    // What has no part in the answer stays as it is, whether it tells or not: the source where the words are no command,
+    // `out` where no text is put there, and `err` where the text is on `out`.
+    ensures source_untouched { words.now ≢ reduce_words → source.new ≡ source.old }
+    ensures out_untouched { (result ≡ Status.Done)
+        ⊎ (((result ≡ Status.WriteFault) × Failed (change O.taken O.faults out.old out.new)) ⊎ (out.new ≡ out.old)) }
+    ensures err_untouched { result ≡ Status.Done → err.new ≡ err.old }
 
     // No count of faults falls.
     ensures source_faults { S.faults source.old ≤ S.faults source.new }
