@@ -1,7 +1,7 @@
 -- Laws on lists of numbers as sets.
 use Rattle.std.proofs.Common.{Some, add-one, add-zero, ◌≡◌, ◌≢◌, ℕ, zero, suc, ◌+◌, ◌<◌, ◌≤◌, Bool, true, false, not, cond, ◌&&◌, ◌||◌, eqb, ltb, List, [], ◌∷◌, ◌++◌, length, ◌⊎◌, inl, inr, refl, sym, ap, subst, ◌∙◌, arith}
 use Rattle.std.specs.Prelude.{All, slice_get}
-use Rattle.std.specs.List.{list_all, filter, range_with_len}
+use Rattle.std.specs.List.{list_any, list_all, filter, range_with_len}
 use Rattle.std.proofs.lemmas.Bool.{or_left, or_right, both_ways, false_from_ne_true, or_parts, or_cases, and_parts, and_from, eqb-true, eq-eqb, ne_eqb, cases_Bool, cases_eq, cases_lt, cases_order, false≢true, true≢false}
 use Rattle.std.proofs.lemmas.Bool.Decides.{nat_tests}
 use Rattle.std.proofs.lemmas.List.Elements.{All-nil, All-cons, All-head, All-tail, All-filter}
@@ -79,6 +79,25 @@ pub all_from : (p : ℕ → Bool) (xs : List ℕ) → ((x : ℕ) → is_in x xs 
 all_from p [] h = refl
 all_from p (x ∷ xs) h =
     and_from (p x) (list_all p xs) (h x (is_in-head x xs)) (all_from p xs (λ y k. h y (is_in-tail y x xs k)))
+
+-- a member that passes a test which some item passes
+pub any_at : (p : ℕ → Bool) (xs : List ℕ) → list_any p xs ≡ true → (x : ℕ) × (is_in x xs ≡ true) × (p x ≡ true)
+any_at p [] h = absurd (false≢true h)
+any_at p (y ∷ ys) h =
+    elim (or_cases (p y) (list_any p ys) h) [
+      | inl t ↦ (y, is_in-head y ys, t)
+      | inr q ↦ let k = any_at p ys q in (k.0, is_in-tail k.0 y ys k.1, k.2)
+    ]
+
+-- some item passes a test that a member passes
+pub any_from : (p : ℕ → Bool) (xs : List ℕ) (x : ℕ) → is_in x xs ≡ true → p x ≡ true → list_any p xs ≡ true
+any_from p [] x h t = absurd (false≢true h)
+any_from p (y ∷ ys) x h t =
+    let P : ℕ → Type 0 = λ z. p z ≡ true in
+    elim (is_in-cases x y ys h) [
+      | inl e ↦ or_left (p y) (list_any p ys) (subst P e t)
+      | inr m ↦ or_right (p y) (list_any p ys) (any_from p ys x m t)
+    ]
 
 -- the members of a range
 pub is_in-range : (x a n : ℕ) → is_in x (range_with_len a n) ≡ (not (ltb x a) && ltb x (a + n))

@@ -1,65 +1,25 @@
 -- Laws of the relations of cases: what they read and change, and where they are total.
-use Rattle.std.proofs.Common.{◌≡◌, ⊎_elim, ℕ, zero, suc, ◌+◌, ◌-◌, ◌<◌, ◌≤◌, min, Bool, true, false, cond, ◌&&◌, ◌==◌, nat_lt, List, [], ◌∷◌, length, slice_index, slice_index_or, Option, Some, None, IsTrue, refl, sym, subst, ap, ap₂, ◌∙◌, arith, eqb-true, eq-eqb, lt-ltb, le_of_suc-le-suc, suc-le-suc}
+use Rattle.std.proofs.Common.{◌≡◌, ⊎_elim, ℕ, ◌+◌, ◌-◌, ◌<◌, ◌≤◌, min, ◌&&◌, ◌==◌, nat_lt, List, [], ◌∷◌, length, slice_index, slice_index_or, Option, Some, None, IsTrue, refl, sym, subst, ap, ap₂, ◌∙◌, arith, eqb-true, eq-eqb, lt-ltb}
 use Rattle.std.proofs.lemmas.Bool.{and_parts, and_from, or_cases, or_left, or_right, cases_lt, cases_Bool, true≢false}
-use Rattle.std.proofs.lemmas.Option.{none-some, same_Some}
 use Rattle.std.proofs.lemmas.List.{get_or_past}
 use Rattle.std.proofs.lemmas.List.Elements.{All-head, All-tail, All-weaker}
 use Rattle.std.specs.List.{All, list_any}
-use Rattle.std.specs.Bool.{⊤}
 use Rattle.nego_base.specs.Members.{is_in}
 use Rattle.nego_data.specs.declared.cases.Operand.{Operand}
 use Rattle.nego_data.specs.declared.cases.Operand.TheVariants as operands
 use Rattle.nego_data.specs.declared.cases.Term.{Term}
 use Rattle.nego_data.specs.declared.cases.Term.TheVariants as terms
 use Rattle.nego_data.specs.declared.cases.Test.{Test}
-use Rattle.nego_data.specs.declared.cases.Set.{Set}
 use Rattle.nego_data.specs.declared.cases.Case.{Case}
 use Rattle.nego_data.specs.Data.{data_count, split, joint}
 use Rattle.nego_data.specs.Cases.{rows_of, compares, operand_value, test_holds, gives, term_for, covers, agent_follows, agents_follow, case_relates, relates}
-use Rattle.nego_data.specs.CaseForm.{operand_agents, term_agents, AreAmong, NamesOnly, FitsSize, AssignsBelow, IsCovered}
+use Rattle.nego_data.specs.CaseForm.{operand_agents, term_agents, AreAmong, NamesOnly, AssignsBelow, IsCovered}
 use Rattle.nego_data.specs.Locality.{AgreeOn, ActsOn}
 use Rattle.nego_base.proofs.Tests.{passing_item, any_passes, all_pass}
-use Rattle.nego_data.proofs.JointData.{length-split, split-below, AreValues, joint-below, split-joint}
+use Rattle.nego_data.proofs.JointData.{length-split, split-below, split-values, AreValues, joint-below, split-joint}
+use Rattle.nego_data.proofs.Assigned.{agents_follow-at, agents_follow_from, follow_from, term_for-some, term_for-fits, least_after-follows, least_values, at-least_values, least_values-values}
 use Rattle.nego_data.proofs.Tables.{relates-on_data, rows_of-relates}
 use Rattle.nego_data.proofs.Acting.{ActsOn-same}
-
--- each agent follows its assignment where all do
-pub agents_follow-at : (n : ℕ) (sizes : List ℕ) (sets : List Set) (old new : List ℕ) → IsTrue (agents_follow n sizes sets old new) → (a : ℕ) → a < length sizes →
-    IsTrue (agent_follows (term_for sets (n + a)) (slice_index sizes a) old (slice_index old (n + a)) (slice_index new (n + a)))
-agents_follow-at n [] sets old new h a k = absurd (let no_more : ⊥ = omega (arith, k) in no_more)
-agents_follow-at n (size ∷ sizes) sets old new h zero k =
-    let e : n ≡ n + 0 = omega arith in
-    subst (λ m. IsTrue (agent_follows (term_for sets m) size old (slice_index old m) (slice_index new m))) e
-    (and_parts (agent_follows (term_for sets n) size old (slice_index old n) (slice_index new n)) (agents_follow (n + 1) sizes sets old new) h).0
-agents_follow-at n (size ∷ sizes) sets old new h (suc a) k =
-    let e : n + 1 + a ≡ n + suc a = omega arith in
-    subst (λ m. IsTrue (agent_follows (term_for sets m) (slice_index sizes a) old (slice_index old m) (slice_index new m))) e
-    (agents_follow-at (n + 1) sizes sets old new
-    (and_parts (agent_follows (term_for sets n) size old (slice_index old n) (slice_index new n)) (agents_follow (n + 1) sizes sets old new) h).1
-    a (le_of_suc-le-suc k))
-
--- all agents follow their assignments where each does
-pub agents_follow_from : (n : ℕ) (sizes : List ℕ) (sets : List Set) (old new : List ℕ) →
-    ((a : ℕ) → a < length sizes → IsTrue (agent_follows (term_for sets (n + a)) (slice_index sizes a) old (slice_index old (n + a)) (slice_index new (n + a)))) →
-    IsTrue (agents_follow n sizes sets old new)
-agents_follow_from n [] sets old new h = refl
-agents_follow_from n (size ∷ sizes) sets old new h =
-    let first : n + 0 ≡ n = omega arith in
-    and_from (agent_follows (term_for sets n) size old (slice_index old n) (slice_index new n)) (agents_follow (n + 1) sizes sets old new)
-    (subst (λ m. IsTrue (agent_follows (term_for sets m) size old (slice_index old m) (slice_index new m))) first (h 0 (omega arith)))
-    (agents_follow_from (n + 1) sizes sets old new (λ a k.
-    let e : n + suc a ≡ n + 1 + a = omega arith in
-    subst (λ m. IsTrue (agent_follows (term_for sets m) (slice_index sizes a) old (slice_index old m) (slice_index new m))) e (h (suc a) (suc-le-suc k))))
-
--- what is assigned to an agent is assigned by some assignment to it
-pub term_for-some : (P : Set → Type 0) (sets : List Set) (a : ℕ) (term : Term) → All P sets → term_for sets a ≡ Some term → (set : Set) × P set × (set.agent.0 ≡ a) × (set.term ≡ term)
-term_for-some P [] a term all e = absurd (none-some term e)
-term_for-some P (set ∷ sets) a term all e = go (set.agent.0 == a) refl e (term_for-some P sets a term (All-tail P set sets all))
-  where
-    go : (b : Bool) → (set.agent.0 == a) ≡ b → cond b (Some set.term) (term_for sets a) ≡ Some term →
-        (term_for sets a ≡ Some term → (set : Set) × P set × (set.agent.0 ≡ a) × (set.term ≡ term)) → (set : Set) × P set × (set.agent.0 ≡ a) × (set.term ≡ term)
-    go true k q more = (set, All-head P set sets all, eqb-true set.agent.0 a k, same_Some set.term term q)
-    go false k q more = more q
 
 -- Values of which these agents have the same.
 abbrev pub SameAt : List ℕ → List ℕ → List ℕ → Type 0
@@ -164,49 +124,6 @@ relates-acts sizes agents cases names = record {
       (λ case n. case_relates-reads sizes agents case (split sizes d) (split sizes e) (split sizes d') (split sizes e') n (SameAt-from_agree sizes agents d d' on) (SameAt-from_agree sizes agents e e' on') off) cases names)));
 }
 
--- a value that an agent of this size may have after its assignment
-abbrev given : Option Term → ℕ → List ℕ → ℕ → ℕ
-given None size old here = here
-given (Some terms.Any) size old here = 0
-given (Some (terms.Number n)) size old here = n
-given (Some (terms.Plus b n)) size old here = min (slice_index old b.0 + n) (size - 1)
-given (Some (terms.Minus b n)) size old here = min (slice_index old b.0 - n) (size - 1)
-
--- What is assigned fits an agent of this size.
-abbrev Fits : Option Term → ℕ → Type 0
-Fits None size = ⊤
-Fits (Some term) size = FitsSize term size
-
--- an agent may have that value, and it is below the size
-given-follows : (o : Option Term) (size : ℕ) (old : List ℕ) (here : ℕ) → here < size → Fits o size → IsTrue (agent_follows o size old here (given o size old here)) × (given o size old here < size)
-given-follows None size old here h fits = (eq-eqb here here refl, h)
-given-follows (Some terms.Any) size old here h fits = (lt-ltb 0 size (omega (arith, h)), omega (arith, h))
-given-follows (Some (terms.Number n)) size old here h fits = (eq-eqb n n refl, fits)
-given-follows (Some (terms.Plus b n)) size old here h fits =
-    (eq-eqb (min (slice_index old b.0 + n) (size - 1)) (min (slice_index old b.0 + n) (size - 1)) refl, omega (arith, h))
-given-follows (Some (terms.Minus b n)) size old here h fits =
-    (eq-eqb (min (slice_index old b.0 - n) (size - 1)) (min (slice_index old b.0 - n) (size - 1)) refl, omega (arith, h))
-
--- such values of the agents from a on
-given_from : ℕ → List ℕ → List Set → List ℕ → List ℕ
-given_from a [] sets old = []
-given_from a (size ∷ sizes) sets old = given (term_for sets a) size old (slice_index old a) ∷ given_from (a + 1) sizes sets old
-
-length-given_from : (n : ℕ) (sizes : List ℕ) (sets : List Set) (old : List ℕ) → length (given_from n sizes sets old) ≡ length sizes
-unfolding given_from
-length-given_from n [] sets old = refl
-length-given_from n (size ∷ sizes) sets old = ap suc (length-given_from (n + 1) sizes sets old)
-
-at-given_from : (n : ℕ) (sizes : List ℕ) (sets : List Set) (old : List ℕ) (a : ℕ) → a < length sizes →
-    slice_index (given_from n sizes sets old) a ≡ given (term_for sets (n + a)) (slice_index sizes a) old (slice_index old (n + a))
-unfolding given_from
-at-given_from n [] sets old a h = absurd (let no_more : ⊥ = omega (arith, h) in no_more)
-at-given_from n (size ∷ sizes) sets old zero h =
-    let e : n ≡ n + 0 = omega arith in ap (λ m. given (term_for sets m) size old (slice_index old m)) e
-at-given_from n (size ∷ sizes) sets old (suc a) h =
-    let e : n + 1 + a ≡ n + suc a = omega arith in
-    at-given_from (n + 1) sizes sets old a (le_of_suc-le-suc h) ∙ ap (λ m. given (term_for sets m) (slice_index sizes a) old (slice_index old m)) e
-
 -- a case that covers values, and whose numbers fit, relates them to some
 pub case_relates-some : (sizes : List ℕ) (case : Case) (d : ℕ) → d < data_count sizes → AssignsBelow sizes case → IsTrue (covers case (split sizes d)) →
     (e : ℕ) × (e < data_count sizes) × IsTrue (case_relates sizes case (split sizes d) (split sizes e))
@@ -214,39 +131,22 @@ case_relates-some sizes case d h fits covered = (
   joint sizes new,
   joint-below sizes new values,
   subst (λ v. IsTrue (case_relates sizes case old v)) (sym (split-joint sizes new values))
-      (and_from (covers case old) (agents_follow 0 sizes case.sets old new) covered (agents_follow_from 0 sizes case.sets old new follows)),
+      (and_from (covers case old) (agents_follow 0 sizes case.sets old new) covered (follow_from sizes case.sets old new follows)),
 )
   where
     old : List ℕ
     old = split sizes d
 
     new : List ℕ
-    new = given_from 0 sizes case.sets old
+    new = least_values sizes case.sets old
 
-    fits_at : (a : ℕ) → Fits (term_for case.sets a) (slice_index sizes a)
-    fits_at a = go (term_for case.sets a) refl
-      where
-        go : (o : Option Term) → term_for case.sets a ≡ o → Fits o (slice_index sizes a)
-        go None e = tt
-        go (Some term) e =
-            let s = term_for-some (λ set. FitsSize set.term (slice_index sizes set.agent.0)) case.sets a term fits e in
-            subst (λ t. FitsSize t (slice_index sizes a)) s.3 (subst (λ b. FitsSize s.0.term (slice_index sizes b)) s.2 s.1)
-
-    each : (a : ℕ) → a < length sizes → IsTrue (agent_follows (term_for case.sets a) (slice_index sizes a) old (slice_index old a) (slice_index new a)) × (slice_index new a < slice_index sizes a)
-    each a k =
-        let e : 0 + a ≡ a = omega arith in
-        let is : slice_index new a ≡ given (term_for case.sets a) (slice_index sizes a) old (slice_index old a) =
-        subst (λ m. slice_index new a ≡ given (term_for case.sets m) (slice_index sizes a) old (slice_index old m)) e (at-given_from 0 sizes case.sets old a k) in
-        let good = given-follows (term_for case.sets a) (slice_index sizes a) old (slice_index old a) (split-below sizes d a h k) (fits_at a) in
-        (subst (λ v. IsTrue (agent_follows (term_for case.sets a) (slice_index sizes a) old (slice_index old a) v)) (sym is) good.0, subst (λ v. v < slice_index sizes a) (sym is) good.1)
-
-    follows : (a : ℕ) → a < length sizes → IsTrue (agent_follows (term_for case.sets (0 + a)) (slice_index sizes a) old (slice_index old (0 + a)) (slice_index new (0 + a)))
+    follows : (a : ℕ) → a < length sizes → IsTrue (agent_follows (term_for case.sets a) (slice_index sizes a) old (slice_index old a) (slice_index new a))
     follows a k =
-        let e : a ≡ 0 + a = omega arith in
-        subst (λ m. IsTrue (agent_follows (term_for case.sets m) (slice_index sizes a) old (slice_index old m) (slice_index new m))) e (each a k).0
+        subst (λ v. IsTrue (agent_follows (term_for case.sets a) (slice_index sizes a) old (slice_index old a) v)) (sym (at-least_values sizes case.sets old a k))
+        (least_after-follows (term_for case.sets a) (slice_index sizes a) old (slice_index old a) (split-below sizes d a h k) (term_for-fits sizes case a fits))
 
     values : AreValues sizes new
-    values = record { as_many = length-given_from 0 sizes case.sets old; below = λ a k. (each a k).1 }
+    values = least_values-values sizes case old fits (split-values sizes d h)
 
 -- some case relates joint data that some case covers
 some_case_relates : (sizes : List ℕ) (cases : List Case) (d : ℕ) → d < data_count sizes → All (AssignsBelow sizes) cases → IsCovered sizes cases d →

@@ -2,7 +2,7 @@
 use Rattle.std.proofs.Common.{◌≡◌, ℕ, zero, suc, ◌+◌, ◌*◌, ◌/◌, ◌%◌, ◌<◌, List, [], ◌∷◌, length, slice_index, refl, sym, subst, ap, ap₂, ◌∙◌, arith, le_of_suc-le-suc, suc-le-suc}
 use Rattle.std.proofs.lemmas.Nat.{div_below, mod_below, div-add-mod', div-mul-add, mod-mul-add, mul-add-lt}
 use Rattle.std.proofs.lemmas.List.{ext_get_or}
-use Rattle.std.proofs.Math.Nat.{mul_comm, pos_of_ne-zero, mul-zero}
+use Rattle.std.proofs.Math.Nat.{add-mul, mul_comm, pos_of_ne-zero, mul-zero}
 use Rattle.nego_data.specs.Data.{data_count, split, joint}
 
 -- Each agent of these sizes has a value below its size.
@@ -69,3 +69,20 @@ split-joint (size ∷ sizes) (value ∷ values) h =
     let below = joint-below sizes values rest in
     ap₂ ◌∷◌ (div-mul-add value (data_count sizes) (joint sizes values) below)
     (ap (split sizes) (mod-mul-add value (data_count sizes) (joint sizes values) below) ∙ split-joint sizes values rest)
+
+-- the number of values that are sums, agent by agent, is the sum of the numbers
+pub joint-sum : (sizes xs ys zs : List ℕ) → length xs ≡ length sizes → length ys ≡ length sizes → length zs ≡ length sizes →
+    ((a : ℕ) → a < length sizes → slice_index zs a ≡ slice_index xs a + slice_index ys a) → joint sizes zs ≡ joint sizes xs + joint sizes ys
+joint-sum [] xs ys zs l m n h = refl
+joint-sum (size ∷ sizes) [] ys zs l m n h = absurd (let no_more : ⊥ = omega (arith, l) in no_more)
+joint-sum (size ∷ sizes) (x ∷ xs) [] zs l m n h = absurd (let no_more : ⊥ = omega (arith, m) in no_more)
+joint-sum (size ∷ sizes) (x ∷ xs) (y ∷ ys) [] l m n h = absurd (let no_more : ⊥ = omega (arith, n) in no_more)
+joint-sum (size ∷ sizes) (x ∷ xs) (y ∷ ys) (z ∷ zs) l m n h =
+    let first : z ≡ x + y = h 0 (omega arith) in
+    let rest = joint-sum sizes xs ys zs (omega (arith, l)) (omega (arith, m)) (omega (arith, n)) (λ a k. h (suc a) (suc-le-suc k)) in
+    ap₂ (λ v w. v * data_count sizes + w) first rest
+    ∙ ap (λ v. v + (joint sizes xs + joint sizes ys)) (add-mul x y (data_count sizes))
+    ∙ swapped (x * data_count sizes) (y * data_count sizes) (joint sizes xs) (joint sizes ys)
+  where
+    swapped : (p q r s : ℕ) → p + q + (r + s) ≡ p + r + (q + s)
+    swapped p q r s = omega arith

@@ -5,5 +5,8 @@ pub mod Tuples
 pub mod KeptSizes
 pub mod Tables
 pub mod Words
+pub mod Assigned
 pub mod Acting
 pub mod CaseRelations
+pub mod Offsets
+pub mod Additions

@@ -1,11 +1,12 @@
 -- Laws of tables of joint data, and of the tables that tests and cases make.
-use Rattle.std.proofs.Common.{◌≡◌, inl, inr, ℕ, ◌<◌, ◌≤◌, Bool, true, false, ◌&&◌, ◌||◌, ◌==◌, nat_lt, List, [], length, set, replicate, filter, slice_index_or, IsTrue, refl, sym, subst, ap, ap₂, ◌∙◌, arith, ltb-true, lt-ltb, eq-eqb}
-use Rattle.std.proofs.lemmas.Bool.{and_parts, cases_lt, cases_eq, ne_eqb}
+use Rattle.std.proofs.Common.{◌≡◌, inl, inr, ℕ, ◌+◌, ◌<◌, ◌≤◌, Bool, true, false, ◌&&◌, ◌||◌, ◌==◌, nat_lt, cond, suc, add-one, zero-add, List, [], ◌∷◌, ◌++◌, length, set, replicate, filter, slice_index_or, IsTrue, refl, sym, subst, ap, ap₂, ◌∙◌, arith, ltb-true, lt-ltb, eq-eqb}
+use Rattle.std.proofs.lemmas.Bool.{cond-true, cond-false, and_parts, cases_lt, cases_eq, ne_eqb}
 use Rattle.std.proofs.lemmas.Bool.Decides.{nat_tests}
-use Rattle.std.proofs.lemmas.List.{get_or_past, get_or-replicate, length-replicate, length-set, get_or-set_same, get_or-set_other, ext_get_or}
+use Rattle.std.proofs.lemmas.List.{append-nil, get_or_past, get_or-replicate, length-replicate, length-set, get_or-set_same, get_or-set_other, ext_get_or}
 use Rattle.std.proofs.lemmas.List.FromFn.{length-map-range_with_len, get_or-map-range_with_len}
-use Rattle.std.proofs.lemmas.List.Elements.{All-from_get_or, All-nil, All-replicate, All-set}
+use Rattle.std.proofs.lemmas.List.Elements.{filter-append, All-from_get_or, All-nil, All-replicate, All-set}
 use Rattle.std.specs.List.{All, list_any, range_with_len}
+use Rattle.nego_base.specs.Bits.{range-suc}
 use Rattle.nego_base.specs.Members.{is_in, with_member, IsRising, IsRisingBelow}
 use Rattle.nego_data.specs.declared.cases.Case.{Case}
 use Rattle.nego_data.specs.Data.{data_count, split}
@@ -77,6 +78,25 @@ related-with table d e c f h = elim (cases_eq c d) [
     untouched : (b : Bool) → b ≡ (b || (false && f == e))
     untouched true = refl
     untouched false = refl
+
+-- ---- a filter of a range
+
+filter-range_push : (test : ℕ → Bool) (n : ℕ) → filter test (range_with_len 0 (n + 1)) ≡ filter test (range_with_len 0 n) ++ cond (test n) (n ∷ []) []
+filter-range_push test n =
+    let one_more : n + 1 ≡ suc n = add-one n in
+    ap (λ m. filter test (range_with_len 0 m)) one_more
+    ∙ ap (filter test) (range-suc 0 n ∙ ap (λ m. range_with_len 0 n ++ m ∷ []) (zero-add n))
+    ∙ filter-append test (range_with_len 0 n) (n ∷ [])
+
+-- one number more, which passes the test
+pub filter-range_more : (test : ℕ → Bool) (n : ℕ) → test n ≡ true → filter test (range_with_len 0 (n + 1)) ≡ filter test (range_with_len 0 n) ++ n ∷ []
+filter-range_more test n h =
+    filter-range_push test n ∙ ap (λ xs. filter test (range_with_len 0 n) ++ xs) (cond-true (test n) (n ∷ []) [] h)
+
+-- one number more, which doesn't pass the test
+pub filter-range_less : (test : ℕ → Bool) (n : ℕ) → test n ≡ false → filter test (range_with_len 0 (n + 1)) ≡ filter test (range_with_len 0 n)
+filter-range_less test n h =
+    filter-range_push test n ∙ ap (λ xs. filter test (range_with_len 0 n) ++ xs) (cond-false (test n) (n ∷ []) [] h) ∙ append-nil (filter test (range_with_len 0 n))
 
 -- ---- the table of a test
 

@@ -71,3 +71,8 @@ TermBelow count (terms.Minus b n) = b.0 < count
 -- The agents of an assignment are below the count.
 abbrev pub SetBelow : ℕ → Set → Type 0
 SetBelow count set = (set.agent.0 < count) × TermBelow count set.term
+
+-- Each agent that the case names is below the count.
+pub record IsNamedBelow (count : ℕ) (case : Case) : Type 0 where
+  pub tests : All (TestBelow count) case.tests
+  pub sets : All (SetBelow count) case.sets

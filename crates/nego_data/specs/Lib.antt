@@ -4,4 +4,5 @@ pub mod Kept
 pub mod Tables
 pub mod Cases
 pub mod CaseForm
+pub mod Given
 pub mod Locality

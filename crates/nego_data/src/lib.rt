@@ -3,9 +3,12 @@
 
 pub mod cases;
 mod covering;
+mod giving;
 mod joint_data;
 pub mod laws;
+mod making;
 mod rows;
 
 pub use joint_data::{SizeFault, Sizes};
+pub use making::{TableFault, table_of};
 pub use rows::Table;

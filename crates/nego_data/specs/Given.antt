@@ -1,0 +1,34 @@
+-- What a case gives the agents: the values that it fixes, and the agents that may have any.
+use Rattle.std.specs.Prelude.{ℕ, ◌+◌, ◌-◌, min, Bool, true, false, ◌||◌, ◌==◌, List, slice_index, Option, Some, None}
+use Rattle.std.specs.List.{list_all, range_with_len}
+use Rattle.nego_base.specs.Members.{is_in}
+use Rattle.nego_data.specs.declared.cases.Term.{Term}
+use Rattle.nego_data.specs.declared.cases.Term.TheVariants.{Any, Number, Plus, Minus}
+
+-- the least value that a term gives an agent of this size
+abbrev pub least_given : Term → ℕ → List ℕ → ℕ
+least_given Any size values = 0
+least_given (Number n) size values = n
+least_given (Plus b n) size values = min (slice_index values b.0 + n) (size - 1)
+least_given (Minus b n) size values = min (slice_index values b.0 - n) (size - 1)
+
+-- the least value that an agent of this size may have who is assigned this, or nothing, after `old`
+abbrev pub least_after : Option Term → ℕ → List ℕ → ℕ → ℕ
+least_after None size values old = old
+least_after (Some term) size values old = least_given term size values
+
+-- whether a term gives any value
+abbrev pub is_any : Term → Bool
+is_any Any = true
+is_any (Number n) = false
+is_any (Plus b n) = false
+is_any (Minus b n) = false
+
+-- whether an agent that is assigned this, or nothing, may have any value
+abbrev pub is_free : Option Term → Bool
+is_free None = false
+is_free (Some term) = is_any term
+
+-- Whether no agent but the free ones has a value above 0.
+abbrev pub is_offset : List ℕ → List ℕ → Bool
+is_offset free tuple = list_all (λ a. slice_index tuple a == 0 || is_in a free) (range_with_len 0 16)

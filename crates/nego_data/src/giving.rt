@@ -1,0 +1,95 @@
+//! What a case gives the agents: the values that it fixes, and the agents that may have any.
+ghost use Rattle.std.specs.Prelude.{◌≡◌, ℕ, ◌<◌, slice_index, length, filter, All, IfOk};
+ghost use Rattle.std.specs.List.{range_with_len};
+ghost use Rattle.nego_base.specs.Members.{is_in};
+ghost use Rattle.nego_data.specs.Data.{data_count};
+ghost use Rattle.nego_data.specs.Sizes.{AreBelow, tuple_of};
+ghost use Rattle.nego_data.specs.Cases.{term_for};
+ghost use Rattle.nego_data.specs.CaseForm.{AssignsBelow, AssignsOnce, FitsSize, SetBelow, TermBelow};
+ghost use Rattle.nego_data.specs.Given.{least_given, least_after, is_any, is_free, is_offset};
+
+use crate::Sizes;
+use crate::cases::{Case, Term};
+use nego_base::{AgentId, AgentSet, Memory, Seq};
+use std::alloc::Global;
+
+/// The least values that the agents may have after the case.
+pub(crate) fn least_values(sizes: &Sizes, case: &Case, old: &[u16; 16]) -> [u16; 16]
+    requires agents { All (SetBelow (length sizes.now)) case.now.sets }
+    requires fits { AssignsBelow sizes.now case.now }
+    requires once { AssignsOnce case.now }
+    requires values { AreBelow sizes.now old.now }
+    ensures least { (a : ℕ) → a < length sizes.now →
+        slice_index result a ≡ least_after (term_for case.now.sets a) (slice_index sizes.now a) old.now (slice_index old.now a) }
+    ensures in_range { AreBelow sizes.now result }
+    ensures sixteen { length result ≡ 16 }
+{
+    let mut new = *old;
+    for set in case.sets.iter() {
+        new[set.agent.0 as usize] = least_given(set.term, sizes.size(set.agent), old);
+    }
+    new
+}
+
+/// The least value that the term gives an agent of this size.
+fn least_given(term: Term, size: u16, old: &[u16; 16]) -> u16
+    requires some_value { 0 < size }
+    requires fits { FitsSize term size }
+    requires agents { TermBelow 16 term }
+    ensures { result ≡ least_given term size old.now }
+{
+    match term {
+        Term::Any => 0,
+        Term::Number(n) => n as u16,
+        Term::Plus(b, n) => {
+            let sum = u64::from(old[b.0 as usize]) + u64::from(n);
+            sum.min(u64::from(size - 1)) as u16
+        }
+        Term::Minus(b, n) => {
+            let difference = u32::from(old[b.0 as usize]).saturating_sub(n);
+            difference.min(u32::from(size - 1)) as u16
+        }
+    }
+}
+
+/// The agents to whom the case gives any value.
+pub(crate) fn free_agents(case: &Case) -> AgentSet
+    requires agents { All (SetBelow 16) case.now.sets }
+    requires once { AssignsOnce case.now }
+    ensures { (a : ℕ) → is_in a result ≡ is_free (term_for case.now.sets a) }
+{
+    let mut free = AgentSet::none();
+    for set in case.sets.iter() {
+        if is_any(set.term) {
+            free = free.with(set.agent);
+        }
+    }
+    free
+}
+
+/// Whether the term gives any value.
+fn is_any(term: Term) -> bool
+    ensures { result ≡ is_any term }
+{
+    matches!(term, Term::Any)
+}
+
+/// The joint data in which no agent but the free ones has a value above 0.
+pub(crate) fn offsets(alloc: Global, sizes: &Sizes, free: AgentSet) -> Result<Seq<u16>, Memory>
+    ensures { IfOk result (λ offsets. offsets ≡ filter (λ o. is_offset free (tuple_of sizes.now o)) (range_with_len 0 (data_count sizes.now))) }
+{
+    let mut offsets = Seq::new(alloc);
+    for o in 0..sizes.all() {
+        if is_offset(free, &sizes.split(o)) {
+            offsets.push(o)?;
+        }
+    }
+    Ok(offsets)
+}
+
+/// Whether no agent but the free ones has a value above 0.
+fn is_offset(free: AgentSet, tuple: &[u16; 16]) -> bool
+    ensures { result ≡ is_offset free tuple.now }
+{
+    (0..16).all(|a| tuple[a as usize] == 0 || free.has(AgentId(a)))
+}

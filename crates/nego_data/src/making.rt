@@ -1,0 +1,93 @@
+//! The table of an outcome's cases.
+ghost use Rattle.std.specs.Prelude.{◌≡◌, ℕ, ◌+◌, ◌<◌, ◌≤◌, ◌||◌, ◌&&◌, ◌==◌, [], ◌∷◌, length, All, IsTrue, IfOk, OnOk};
+ghost use Rattle.std.specs.List.{list_any};
+ghost use Rattle.nego_data.specs.Data.{data_count};
+ghost use Rattle.nego_data.specs.Sizes.{AreSizes};
+ghost use Rattle.nego_data.specs.Tables.{IsTable, is_related};
+ghost use Rattle.nego_data.specs.Cases.{relates, rows_of};
+ghost use Rattle.nego_data.specs.CaseForm.{NamesOnly, AssignsOnce, AssignsBelow, IsNamedBelow};
+ghost use Rattle.nego_data.specs.Locality.{ActsOn};
+ghost use Rattle.nego_data.specs.declared.making.TableFault.TheVariants.{Memory as Starved};
+
+use crate::cases::Case;
+use crate::covering::covers;
+use crate::giving::{free_agents, least_values, offsets};
+use crate::{Sizes, Table};
+use nego_base::{AgentSet, Memory};
+use std::alloc::Global;
+use thiserror::Error;
+
+/// Why a table wasn't made.
+#[derive(Clone, Copy, Debug, PartialEq, Eq, Error)]
+pub enum TableFault {
+    /// Want of memory.
+    #[error("out of memory")]
+    Memory,
+}
+
+impl From<Memory> for TableFault {
+    ghost from_gives = { λ _ e. e ≡ Starved };
+
+    fn from(_error: Memory) -> TableFault {
+        TableFault::Memory
+    }
+}
+
+/// The table of an outcome's cases, whose atom has these parties. It relates joint data as the cases do, and reads and
+/// changes the values of the parties alone.
+pub fn table_of(
+    alloc: Global,
+    sizes: &Sizes,
+    parties: AgentSet,
+    cases: &[Case],
+) -> Result<Table, TableFault>
+    requires parties { All (λ a. a < length sizes.now) parties }
+    requires named { All (NamesOnly parties) cases.now }
+    requires once { All AssignsOnce cases.now }
+    requires fits { All (AssignsBelow sizes.now) cases.now }
+    ensures rows { IfOk result (λ table. table ≡ rows_of sizes.now cases.now) }
+    ensures table { IfOk result (IsTable (data_count sizes.now)) }
+    ensures acts { IfOk result (λ table. ActsOn sizes.now parties (λ d e. IsTrue (is_related table d e))) }
+{
+    let mut table = Table::empty(alloc, sizes.all())?;
+    for case in cases {
+        add_case(alloc, &mut table, sizes, case)?;
+    }
+    Ok(table)
+}
+
+/// Relates what the case relates too, in a table of the sizes' joint data.
+fn add_case(alloc: Global, table: &mut Table, sizes: &Sizes, case: &Case) -> Result<(), Memory>
+    requires named { IsNamedBelow (length sizes.now) case.now }
+    requires once { AssignsOnce case.now }
+    requires fits { AssignsBelow sizes.now case.now }
+    requires table { IsTable (data_count sizes.now) table.old }
+    ensures table { IsTable (data_count sizes.now) table.new }
+    ensures related { OnOk result ((d e : ℕ) → d < data_count sizes.now → e < data_count sizes.now →
+        is_related table.new d e ≡ (is_related table.old d e || relates sizes.now (case.now ∷ []) d e)) }
+{
+    let all = sizes.all();
+    let offsets = offsets(alloc, sizes, free_agents(case))?;
+    for d in 0..all {
+        let old = sizes.split(d);
+        if covers(case, &old) {
+            let least = sizes.joint(&least_values(sizes, case, &old));
+            relate_all(table, d, least, offsets.as_slice());
+        }
+    }
+    Ok(())
+}
+
+/// Relates d to the joint data that are above the least by an offset.
+fn relate_all(table: &mut Table, d: u16, least: u16, offsets: &[u16])
+    requires few { length table.old ≤ 1024 }
+    requires from { d < length table.old }
+    requires to { All (λ o. least + o < length table.old) offsets.now }
+    requires table { IsTable (length table.old) table.old }
+    ensures table { IsTable (length table.old) table.new }
+    ensures related { (c e : ℕ) → is_related table.new c e ≡ (is_related table.old c e || (c == d && list_any (λ o. least + o == e) offsets.now)) }
+{
+    for offset in offsets {
+        table.relate(d, least + *offset);
+    }
+}
