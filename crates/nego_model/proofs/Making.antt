@@ -1,5 +1,5 @@
 -- When plain data are a diagram, by what is asked of each atom and of each outcome.
-use Rattle.std.proofs.Common.{◌≡◌, ◌≢◌, ◌⊎◌, ℕ, ◌<◌, List, [], length, slice_get, slice_index_or, Some, IsTrue, refl, sym, subst, ap, ◌∙◌}
+use Rattle.std.proofs.Common.{◌≡◌, ◌≢◌, ◌⊎◌, ℕ, ◌<◌, List, [], length, slice_index_or, IsTrue, sym, subst, ◌∙◌}
 use Rattle.std.proofs.lemmas.Option.{slice_get-get_or}
 use Rattle.std.specs.List.{All}
 use Rattle.nego_base.specs.Members.{is_in, IsRising, IsRisingBelow}
@@ -11,7 +11,7 @@ use Rattle.nego_data.proofs.Acting.{ActsOn-same}
 use Rattle.nego_model.specs.Negotiation.{IsOutcome, IsNegotiation}
 use Rattle.nego_model.specs.Joining.{By}
 use Rattle.nego_model.specs.Diagram.{PlainAtom, PlainOutcome, PlainDiagram, IsDiagram, negotiation_of, parties_of, outcomes_from, nexts_of, relation_of}
-use Rattle.nego_model.proofs.Diagrams.{OutcomeAt, atom-below, atom_from_below, outcome_at, same_atom, rising-atoms, rising-outcomes, parties_of-at, nexts_of-at, relation_of-at}
+use Rattle.nego_model.proofs.Diagrams.{atom-below, atom_from_below, outcome_at, same_atom, rising-atoms, rising-outcomes, parties_of-at, nexts_of-at, relation_of-at}
 use Rattle.nego_model.proofs.Readers.{all_at_place}
 
 -- The parties of an atom are a rising list of agents, and there is one.

@@ -1,23 +1,22 @@
 -- What a diagram's conditions say of what its readers read.
-use Rattle.std.proofs.Common.{◌≡◌, ◌≢◌, ℕ, zero, suc, ◌+◌, ◌-◌, ◌<◌, ◌≤◌, Bool, true, ◌==◌, not, ◌&&◌, List, [], ◌∷◌, length, map, slice_get, slice_index_or, Some, None, IsTrue, refl, sym, subst, ap, ◌∙◌, arith, take}
-use Rattle.std.proofs.lemmas.Option.{none-some, same_Some, slice_get_within, slice_get-get_or, slice_get-map, get_or_from_slice_get}
+use Rattle.std.proofs.Common.{◌≡◌, ◌≢◌, ℕ, zero, suc, ◌+◌, ◌<◌, ◌≤◌, List, [], ◌∷◌, length, map, slice_get, Some, IsTrue, refl, sym, subst, ap, ◌∙◌, arith}
+use Rattle.std.proofs.lemmas.Option.{none-some, same_Some, slice_get_within, slice_get-map, get_or_from_slice_get}
 use Rattle.std.proofs.lemmas.Bool.Decides.{nat_tests}
-use Rattle.std.proofs.lemmas.List.{get_or-take, length-map}
-use Rattle.std.specs.Option.{option_map, option_map_or}
+use Rattle.std.proofs.lemmas.List.{get_or-take}
+use Rattle.std.specs.Option.{option_map}
 use Rattle.std.specs.List.{All, range_with_len}
 use Rattle.nego_base.specs.Members.{is_in, IsRising}
 use Rattle.nego_base.specs.Name.{is_name}
 use Rattle.nego_data.specs.Data.{data_count}
 use Rattle.nego_data.specs.Tables.{IsTable}
-use Rattle.nego_base.proofs.Members.{is_in-head, is_in-range, All-member, All-members, head-least}
+use Rattle.nego_base.proofs.Members.{is_in-head, is_in-range, All-members, head-least}
 use Rattle.nego_model.specs.declared.parts.AtomPart.{AtomPart}
 use Rattle.nego_model.specs.declared.parts.OutcomePart.{OutcomePart}
 use Rattle.nego_model.specs.declared.parts.Parts.{Parts}
 use Rattle.nego_model.specs.Negotiation.{IsOutcome}
-use Rattle.nego_model.specs.Diagram.{PlainAtom, PlainOutcome, PlainDiagram, IsDiagram, negotiation_of, parties_of, leader_of, outcomes_from, atom_of, nexts_of}
-use Rattle.nego_model.specs.Limits.{HasNames}
+use Rattle.nego_model.specs.Diagram.{PlainOutcome, PlainDiagram, IsDiagram, negotiation_of, parties_of, outcomes_from, nexts_of}
 use Rattle.nego_model.specs.Parts.{plain_atom, plain_outcome, plain_of, AreParts}
-use Rattle.nego_model.proofs.Diagrams.{OutcomeAt, atom-below, atom_from_below, outcome_at, IsOutcome_from_at, nexts_of-at, parties_of-at}
+use Rattle.nego_model.proofs.Diagrams.{atom-below, atom_from_below, outcome_at, IsOutcome_from_at, nexts_of-at, parties_of-at}
 
 -- what all items of a list have, the item at a place has
 pub all_at_place : {X : Type 0} (P : X → Type 0) (xs : List X) (k : ℕ) (x : X) → All P xs → slice_get xs k ≡ Some x → P x
@@ -92,8 +91,8 @@ module _ (parts : Parts) (ok : AreParts parts) where
   pub nexts_part-below : (o a : ℕ) (part : OutcomePart) (next : List ℕ) → slice_get parts.outcomes o ≡ Some part → a < length parts.agents → slice_get part.nexts a ≡ Some next → All (λ n. n < length (plain_of parts).atoms) next
   nexts_part-below o a part next at below at_agent =
       let is_next : nexts_of (plain_of parts) o a ≡ next =
-          nexts_of-at (plain_of parts) o a (plain_outcome (length parts.agents) part) (outcome_part-at o part at)
-          ∙ (get_or-take (length parts.agents) part.nexts a [] below ∙ get_or_from_slice_get part.nexts a next [] at_agent) in
+      nexts_of-at (plain_of parts) o a (plain_outcome (length parts.agents) part) (outcome_part-at o part at)
+      ∙ (get_or-take (length parts.agents) part.nexts a [] below ∙ get_or_from_slice_get part.nexts a next [] at_agent) in
       subst (λ xs. All (λ n. n < length (plain_of parts).atoms) xs) is_next
       (nexts-below (plain_of parts) ok.diagram o a (plain_outcome (length parts.agents) part) (outcome_part-at o part at))
 

@@ -1,5 +1,3 @@
-use Rattle.std.proofs.Common.{subst, sym}
-use Rattle.nego_base.specs.Members.{IsRising}
 use Rattle.nego_model.proofs.Readers.{first_member, first_least}
 use Rattle.nego_model.proofs.diagram.Diagram.leader.Goals as goal
 
