@@ -112,10 +112,38 @@ fn reduced(alloc: Global, failing: Option<u32>, closed: u32) -> Result<Left, Mem
 fn reader_and_writer(rt: HostRuntime) -> Result<(), Fail> {
     for (failing, closed, status, out, err, faults) in [
         (None, 1000, Status::Done, SUMMARY, b"" as &[u8], [0, 0, 0]),
-        (Some(0), 1000, Status::ReadFault, b"", b"read fault\n", [1, 0, 0]),
-        (Some(9), 1000, Status::ReadFault, b"", b"read fault\n", [1, 0, 0]),
-        (None, 0, Status::WriteFault, b"", b"write fault\n", [0, 1, 0]),
-        (None, 3, Status::WriteFault, b"certif", b"write fault\n", [0, 1, 0]),
+        (
+            Some(0),
+            1000,
+            Status::ReadFault,
+            b"",
+            b"read fault\n",
+            [1, 0, 0],
+        ),
+        (
+            Some(9),
+            1000,
+            Status::ReadFault,
+            b"",
+            b"read fault\n",
+            [1, 0, 0],
+        ),
+        (
+            None,
+            0,
+            Status::WriteFault,
+            b"",
+            b"write fault\n",
+            [0, 1, 0],
+        ),
+        (
+            None,
+            3,
+            Status::WriteFault,
+            b"certif",
+            b"write fault\n",
+            [0, 1, 0],
+        ),
     ] {
         let left = reduced(rt.alloc(), failing, closed)?;
         assert_eq!(rt; left.status, status, "{failing:?} {closed}");
