@@ -1,5 +1,14 @@
 pub mod Bits
 pub mod Cases
+pub mod Cuts
+pub mod GrammarLaws
 pub mod LineLaws
 pub mod Members
+pub mod NameLaws
+pub mod NumberLaws
+pub mod Places
+pub mod PrintedLaws
+pub mod ScanLaws
+pub mod SoundLaws
+pub mod WordLaws
 pub mod BoolLaws

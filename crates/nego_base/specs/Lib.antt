@@ -1,8 +1,13 @@
 pub mod Bits
+pub mod Grammar
 pub mod Lends
 pub mod Lines
 pub mod Members
 pub mod Name
+pub mod Number
 pub mod Options
+pub mod Printed
 pub mod Results
 pub mod Room
+pub mod Scan
+pub mod Sound
