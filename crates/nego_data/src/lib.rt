@@ -8,6 +8,8 @@ mod joint_data;
 pub mod laws;
 mod making;
 mod rows;
+#[cfg(test)]
+mod tests;
 
 pub use joint_data::{SizeFault, Sizes};
 pub use making::{TableFault, table_of};
