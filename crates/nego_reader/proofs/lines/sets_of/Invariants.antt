@@ -1,0 +1,7 @@
+use Rattle.std.proofs.Common.{◌≡◌, drop}
+use Rattle.nego_reader.specs.Reading.{each, set_of}
+use Rattle.nego_reader.specs.Answer.{onto}
+use Rattle.nego_reader.proofs.lines.sets_of.Given as goal
+
+abbrev pub invariant-loop-word : goal.invariant-loop-word
+invariant-loop-word l = onto l.sets (each set_of (drop l.word-index l.words)) ≡ each set_of l.words

@@ -1,0 +1,11 @@
+use Rattle.std.proofs.Common.{[], ◌∷◌, length}
+use Rattle.std.specs.List.{flat_map}
+use Rattle.nego_reader.specs.Rows.{Out, Atom, First, out_rows}
+use Rattle.nego_reader.specs.Answer.{ReadsTo}
+use Rattle.nego_reader.proofs.pieces.outs.Given as goal
+
+abbrev pub invariant-loop-line : goal.invariant-loop-line
+invariant-loop-line l = ReadsTo (Out ∷ Atom ∷ First ∷ []) l.lines (flat_map out_rows l.outs) (Out ∷ Atom ∷ First ∷ []) l.rest
+
+abbrev pub decreases-loop-line : goal.decreases-loop-line
+decreases-loop-line l = length l.rest

@@ -1,0 +1,69 @@
+-- What the private readers promise of their answers.
+use Rattle.std.specs.Prelude.{◌≡◌, ℕ, ◌+◌, ◌-◌, ◌^◌, ◌<◌, ◌≤◌, Bool, false, List, [], ◌∷◌, ◌++◌, length, slice_get, Some, Result, Ok, Err, All, ⊤}
+use Rattle.std.specs.Option.{option_map_or}
+use Rattle.std.specs.Str.{bytes_eq}
+use Rattle.nego_base.specs.declared.fault.Fault.{Fault}
+use Rattle.nego_base.specs.declared.fault.ReadFaults.{ReadFaults}
+use Rattle.nego_base.specs.declared.fault.ReadFaults.TheVariants as faults
+use Rattle.nego_base.specs.declared.line.Word.{Word}
+use Rattle.nego_base.specs.declared.line.Line.{Line}
+use Rattle.nego_base.specs.Results.{◌>>=◌}
+use Rattle.nego_reader.specs.Rows.{Kind, Row}
+use Rattle.nego_reader.specs.Reading.{walk, diagram_fault}
+use Rattle.nego_reader.specs.Spelling.{Spells}
+use Rattle.nego_reader.specs.declared.parsed.Parsed.{Parsed}
+
+-- an answer without a value comes of the fault that is found, or of want of memory
+abbrev pub Fails : {Y : Type 0} → ReadFaults → Result Y Fault → Type 0
+Fails faults.Memory found = ⊤
+Fails (faults.Off fault) found = found ≡ Err fault
+
+-- what is answered, seen so, is what is found
+abbrev pub Gives : {X Y : Type 0} → (X → Y) → Result X ReadFaults → Result Y Fault → Type 0
+Gives view (Ok x) found = found ≡ Ok (view x)
+Gives view (Err e) found = Fails e found
+
+-- the same, where no memory is taken
+abbrev pub Tells : {X Y : Type 0} → (X → Y) → Result X Fault → Result Y Fault → Type 0
+Tells view (Ok x) found = found ≡ Ok (view x)
+Tells view (Err fault) found = found ≡ Err fault
+
+-- each column in the word has 32 bits
+abbrev pub FitsWord : Word → Type 0
+FitsWord word = word.column + length word.text < 2 ^ 32
+
+-- each column in the line, and the one behind it, has 32 bits
+pub record FitsLine (line : Line) : Type 0 where
+  pub behind : line.length < 2 ^ 32 - 1
+  pub words : All FitsWord line.words
+
+-- items, and then those that are found
+abbrev pub onto : {A : Type 0} → List A → Result (List A) Fault → Result (List A) Fault
+onto front found = found >>= λ rest. Ok (front ++ rest)
+
+-- whether the first line begins with this word
+unfoldable pub begins : List ℕ → List Line → Bool
+begins text [] = false
+begins text (line ∷ lines) = option_map_or (λ word. bytes_eq word.text text) (slice_get line.words 0) false
+
+-- Lines, of which the first may be of these kinds, say these rows, and then what the lines that are left say, of which the
+-- first may be of the other kinds.
+pub record ReadsTo (kinds : List Kind) (lines : List Line) (rows : List Row) (kinds' : List Kind) (rest : List Line) : Type 0 where
+  pub says : (missing : Fault) → walk missing kinds lines ≡ onto rows (walk missing kinds' rest)
+  pub fits : All FitsLine rest
+  pub shorter : length rest ≤ length lines
+
+-- what is answered, seen as rows and the lines behind them, is what these lines say
+abbrev pub Goes : {X : Type 0} → (X → List Row × List Line) → List Kind → List Line → List Kind → Result X ReadFaults → Type 0
+Goes view kinds lines kinds' (Ok x) = ReadsTo kinds lines (view x).0 kinds' (view x).1
+Goes view kinds lines kinds' (Err e) = (missing : Fault) → Fails e (walk missing kinds lines)
+
+-- where an answer comes that isn't a diagram
+abbrev pub ReadHasCause : ReadFaults → List ℕ → Type 0
+ReadHasCause faults.Memory bytes = ⊤
+ReadHasCause (faults.Off fault) bytes = diagram_fault bytes ≡ Some fault
+
+-- a text that is off its grammar spells nothing
+abbrev pub SpellsNothing : ReadFaults → List ℕ → Type 0
+SpellsNothing faults.Memory bytes = ⊤
+SpellsNothing (faults.Off fault) bytes = (p : Parsed) → ¬ (Spells bytes p)

@@ -1,0 +1,7 @@
+pub mod Rows
+pub mod Spelling
+pub mod Reading
+pub mod Answer
+pub mod Content
+pub mod Printing
+pub mod PrintedLines

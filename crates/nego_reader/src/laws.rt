@@ -1,0 +1,26 @@
+//! What texts spell, where their faults are, and what is printed. Each function does nothing; its clause is the law.
+
+ghost use Rattle.std.specs.Prelude.{◌≡◌, ℕ, List, None};
+ghost use Rattle.nego_reader.specs.declared.parsed.Parsed.{Parsed};
+ghost use Rattle.nego_reader.specs.Content.{content_of};
+ghost use Rattle.nego_reader.specs.Printing.{printed_diagram};
+ghost use Rattle.nego_reader.specs.Spelling.{Spells};
+ghost use Rattle.nego_reader.specs.Reading.{diagram_fault};
+
+/// A text spells at most one diagram.
+pub fn texts_spell_one_diagram()
+    ensures { (bytes : List ℕ) (p q : Parsed) → Spells bytes p → Spells bytes q → p ≡ q }
+{}
+
+/// A text has a fault exactly where it spells no diagram.
+pub fn faults_are_where_nothing_is_spelled()
+    ensures spelled { (bytes : List ℕ) → diagram_fault bytes ≡ None → (p : Parsed) × Spells bytes p }
+    ensures sound { (bytes : List ℕ) (p : Parsed) → Spells bytes p → diagram_fault bytes ≡ None }
+{}
+
+/// The printed text of a diagram that some text spells spells it too: all but the places of its words. Diagrams that
+/// differ in these places alone are printed alike.
+pub fn printed_diagrams_are_spelled()
+    ensures spelled { (text : List ℕ) (p : Parsed) → Spells text p → (q : Parsed) × Spells (printed_diagram p) q × (content_of q ≡ content_of p) }
+    ensures alike { (p q : Parsed) → content_of p ≡ content_of q → printed_diagram p ≡ printed_diagram q }
+{}
