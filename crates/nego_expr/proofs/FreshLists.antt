@@ -6,10 +6,10 @@ use Rattle.std.proofs.lemmas.List.Elements.{All-nil, All-cons}
 use Rattle.std.specs.List.{All, range_with_len}
 use Rattle.std.specs.Option.{option_map_or, option_to_list}
 use Rattle.nego_base.specs.Members.{is_in, IsRising, RisesFrom}
-use Rattle.nego_model.specs.Diagram.{PlainAtom, PlainOutcome, PlainDiagram, outcomes_from, nexts_of}
+use Rattle.nego_model.specs.Diagram.{PlainAtom, PlainOutcome, PlainDiagram, outcomes_from}
 use Rattle.nego_base.proofs.Members.{is_in-head, is_in-tail}
 use Rattle.nego_expr.specs.Work.{WorkOutcome, parties_among, outcome_among}
-use Rattle.nego_expr.specs.Fresh.{atoms_from, outcomes_of}
+use Rattle.nego_expr.specs.Fresh.{atoms_from, fresh_at, outcomes_of}
 
 -- a range rises from where it begins
 pub rises-range : (low n count : ℕ) → low ≤ n → RisesFrom low (range_with_len n count)
@@ -44,13 +44,7 @@ parties-atoms_from n (atom ∷ atoms) (suc k) =
 
 -- an outcome of the diagram as the alive outcome of a number
 abbrev pub fresh_outcome : PlainDiagram → ℕ → PlainOutcome → WorkOutcome
-fresh_outcome diagram o outcome = record {
-  number = o;
-  atom = outcome.atom;
-  targets = map (λ a. slice_get (nexts_of diagram o a) 0) (range_with_len 0 (length diagram.agents));
-  node = o;
-  passed = [];
-}
+fresh_outcome diagram o outcome = record (fresh_at diagram o) { atom = outcome.atom }
 
 -- the number of the outcome at a place is among those of its atom
 pub is_in_outcomes_from : (n : ℕ) (outcomes : List PlainOutcome) (k : ℕ) (x : PlainOutcome) → slice_get outcomes k ≡ Some x → IsTrue (is_in (n + k) (outcomes_from n outcomes x.atom))

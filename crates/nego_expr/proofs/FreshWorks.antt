@@ -10,7 +10,7 @@ use Rattle.std.specs.Option.{option_map_or, option_to_list}
 use Rattle.nego_base.specs.Members.{is_in, all_in, IsRising}
 use Rattle.nego_base.proofs.Members.{all_in-members}
 use Rattle.nego_model.specs.Negotiation.{Negotiation, IsNegotiation, IsOutcome, IsDeterministic}
-use Rattle.nego_model.specs.Occurring.{IsSound}
+use Rattle.nego_model.specs.Occurring.{opening_marking, leaves, IsSound}
 use Rattle.nego_model.specs.Joining.{Relation, By, Runs}
 use Rattle.nego_model.specs.Expression.{EachBase}
 use Rattle.nego_model.specs.Diagram.{PlainOutcome, PlainDiagram, negotiation_of, relation_of, parties_of, nexts_of, outcome_name, IsDiagram}
@@ -18,7 +18,7 @@ use Rattle.nego_model.specs.Summary.{final_outcomes}
 use Rattle.nego_base.proofs.Members.{is_in-range_zero}
 use Rattle.nego_model.proofs.Joined.{Joins-wider}
 use Rattle.nego_expr.specs.Work.{WorkOutcome, IsWork, outcome_at, sent_to, work_parties, work_outcomes, negotiation_of_work, ByWork}
-use Rattle.nego_expr.specs.Fresh.{atoms_from, outcomes_of, fresh_work, Stands, FreshWorksStand}
+use Rattle.nego_expr.specs.Fresh.{atoms_from, outcomes_of, fresh_work, Stands, FreshWorksStand, HasTheRuns, FreshWorksHaveTheRuns}
 use Rattle.nego_expr.proofs.Alive.{ByWork-found, ByWork-none}
 use Rattle.nego_expr.proofs.BaseNodes.{base_nodes, length-base_nodes, base_nodes-formed, Means-base_nodes, EachBase-base_nodes}
 use Rattle.nego_expr.proofs.FreshLists.{rises-range, one_at_most, numbers-atoms_from, parties-atoms_from, fresh_outcome, is_in_outcomes_from, numbers-outcomes_of, outcomes_of-at_atom, outcomes_of-found, All-outcomes_of}
@@ -113,6 +113,10 @@ module _ (diagram : PlainDiagram) (ok : IsDiagram diagram) (one : IsDeterministi
           let m = Means-base_nodes (By (relation_of diagram)) (length diagram.outcomes) o d e (slice_get_within diagram.outcomes o x h) in
           (λ r. m.0 (k.0 r), λ r. k.1 (m.1 r))
 
+  -- the fresh work has the diagram's runs
+  pub fresh_has_runs : HasTheRuns (fresh_work diagram) diagram
+  fresh_has_runs steps = ap (λ nego. leaves nego (opening_marking nego) steps) fresh_negotiation
+
   -- the fresh work stands for the diagram
   pub fresh_stands : Stands (fresh_work diagram) diagram
   unfolding fresh_work
@@ -166,3 +170,7 @@ module _ (diagram : PlainDiagram) (ok : IsDiagram diagram) (one : IsDeterministi
 -- the fresh work of a deterministic diagram is a work, and stands for the diagram
 pub fresh_works : FreshWorksStand
 fresh_works diagram ok one = (fresh_is_work diagram ok one, fresh_stands diagram ok one)
+
+-- the fresh work of a deterministic diagram has the diagram's runs
+pub fresh_works_runs : FreshWorksHaveTheRuns
+fresh_works_runs diagram ok one = fresh_has_runs diagram ok one

@@ -1,3 +1,4 @@
+pub mod EditCalls
 pub mod Alive
 pub mod OneAtomLeft
 pub mod Finished
@@ -7,3 +8,12 @@ pub mod WorkForm
 pub mod BaseNodes
 pub mod FreshLists
 pub mod FreshWorks
+pub mod Places
+pub mod Printing
+pub mod Seen
+pub mod FreshSteps
+pub mod FreshBuilt
+pub mod Undetermined
+pub mod Finishing
+pub mod UsableWorks
+pub mod LocalWorks

@@ -1,12 +1,13 @@
--- What a use of a rule keeps.
+-- What a merge and a closing keep.
 use Rattle.std.specs.Prelude.{◌≡◌, ◌↔◌, ℕ, IsTrue}
 use Rattle.nego_base.specs.Members.{is_in}
 use Rattle.nego_model.specs.Occurring.{IsSound}
 use Rattle.nego_model.specs.Joining.{RelationTest, Runs}
 use Rattle.nego_expr.specs.Work.{PlainWork, negotiation_of_work, work_outcomes, ByWork}
 
--- The new work is sound exactly where the old one is, has the same final outcomes, and its complete runs with each
--- of them relate what the old one's do, whatever the test for the outcomes that were read.
+-- What a merge and a closing keep: the new work is sound exactly where the old one is, has the same final outcomes,
+-- and its complete runs with each of them relate what the old one's do. This is so whatever the test for the outcomes
+-- that were read, also one by which they act on agents that are no parties of their atoms.
 pub record Keeps (old new : PlainWork) : Type 0 where
   pub sound : IsSound (negotiation_of_work old) ↔ IsSound (negotiation_of_work new)
   pub finals : work_outcomes old old.last ≡ work_outcomes new new.last

@@ -1,5 +1,9 @@
 pub mod Finish
 pub mod Fresh
 pub mod Keeps
+pub mod Local
+pub mod Plain
+pub mod SummaryText
 pub mod Use
 pub mod Work
+pub mod WorkView

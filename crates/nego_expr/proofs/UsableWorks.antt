@@ -1,0 +1,122 @@
+-- Works in memory: the atoms that are left with their parties, and alive outcomes after an edit.
+use Rattle.std.proofs.Common.{◌≡◌, ⊎_elim, ℕ, ◌+◌, ◌<◌, ◌≤◌, ◌==◌, not, cond, Bool, true, false, Option, List, [], ◌∷◌, ◌++◌, length, map, slice_index_or, IsTrue, refl, sym, subst, ap, ◌∙◌, arith, eq-eqb, ne_eqb}
+use Rattle.std.specs.List.{All, filter}
+use Rattle.std.proofs.lemmas.Bool.{cond-true, cond-false, cases_eq}
+use Rattle.std.proofs.lemmas.List.Elements.{All-nil, All-cons, All-head, All-tail, All-filter, All-append, All-weaker}
+use Rattle.std.proofs.lemmas.List.{map-append}
+use Rattle.nego_base.specs.Members.{is_in, without_member, RisesFrom, IsRising}
+use Rattle.nego_base.proofs.Members.{is_in_none, is_in-cases, rises-append}
+use Rattle.nego_expr.specs.Work.{WorkOutcome, parties_among}
+use Rattle.nego_expr.specs.Plain.{RoomyWork, changed}
+use Rattle.nego_expr.specs.WorkView.{atom_among, roomy_work, AreAlive}
+use Rattle.nego_expr.specs.declared.work.Work.TheInside.{Inside}
+use Rattle.nego_expr.proofs.WorkEdits.{numbers_of, numbers-changed, rises-passing}
+
+module _ (parties : List (List ℕ)) where
+  -- the atoms have the numbers of those that are left
+  pub numbers-atoms : (left : List ℕ) → map (λ atom. atom.number) (map (atom_among parties) left) ≡ left
+  numbers-atoms [] = refl
+  numbers-atoms (n ∷ left) = ap (◌∷◌ n) (numbers-atoms left)
+
+  -- an atom that is left has its parties
+  pub parties-atoms : (left : List ℕ) (n : ℕ) → IsTrue (is_in n left) → parties_among (map (atom_among parties) left) n ≡ slice_index_or parties n []
+  parties-atoms [] n h = absurd (is_in_none n [] refl h)
+  parties-atoms (m ∷ left) n h = ⊎_elim
+      (λ e. cond-true (m == n) (slice_index_or parties m []) (parties_among (map (atom_among parties) left) n) (eq-eqb m n e) ∙ ap (λ k. slice_index_or parties k []) e)
+      (λ other. cond-false (m == n) (slice_index_or parties m []) (parties_among (map (atom_among parties) left) n) (ne_eqb m n other)
+      ∙ ⊎_elim (λ e. absurd (other (sym e))) (λ q. parties-atoms left n q) (is_in-cases n m left h))
+      (cases_eq m n)
+
+  -- without an atom
+  pub atoms-without : (n : ℕ) (left : List ℕ) → map (atom_among parties) (without_member n left) ≡ filter (λ atom. not (atom.number == n)) (map (atom_among parties) left)
+  atoms-without n [] = refl
+  atoms-without n (m ∷ left) = go (not (m == n)) (atoms-without n left)
+    where
+      go : (b : Bool) → map (atom_among parties) (without_member n left) ≡ filter (λ atom. not (atom.number == n)) (map (atom_among parties) left) →
+          map (atom_among parties) (cond b (m ∷ without_member n left) (without_member n left))
+          ≡ cond b (atom_among parties m ∷ filter (λ atom. not (atom.number == n)) (map (atom_among parties) left)) (filter (λ atom. not (atom.number == n)) (map (atom_among parties) left))
+      go true k = ap (◌∷◌ (atom_among parties m)) k
+      go false k = k
+
+-- an atom of the work that the fields are is left
+pub left_there : (w : Inside) (work : RoomyWork) (n : ℕ) → roomy_work w ≡ work → IsTrue (is_in n (map (λ atom. atom.number) work.plain.atoms)) → IsTrue (is_in n w.left)
+left_there w work n e h =
+    let At : RoomyWork → Type 0 = λ v. IsTrue (is_in n (map (λ atom. atom.number) v.plain.atoms)) in
+    subst (λ xs. IsTrue (is_in n xs)) (numbers-atoms w.parties w.left) (subst At (sym e) h)
+
+-- what holds of each changed outcome
+All-changed : (P : WorkOutcome → Type 0) (change : WorkOutcome → WorkOutcome) → ((x : WorkOutcome) → P x → P (change x)) → (xs : List WorkOutcome) → All P xs → All P (map change xs)
+All-changed P change k [] h = All-nil P
+All-changed P change k (x ∷ xs) h = All-cons P (change x) (map change xs) (k x (All-head P x xs h)) (All-changed P change k xs (All-tail P x xs h))
+
+-- what holds of each outcome's number
+All-numbers : (P : ℕ → Type 0) (xs : List WorkOutcome) → All (λ x. P x.number) xs → All P (numbers_of xs)
+All-numbers P [] h = All-nil P
+All-numbers P (x ∷ xs) h = All-cons P x.number (numbers_of xs) (All-head (λ y. P y.number) x xs h) (All-numbers P xs (All-tail (λ y. P y.number) x xs h))
+
+-- outcomes of rising numbers are no more than numbers
+few_above : (low numbers : ℕ) (xs : List WorkOutcome) → RisesFrom low (numbers_of xs) → All (λ x. x.number < numbers) xs → low ≤ numbers → length xs + low ≤ numbers
+few_above low numbers [] h k le = omega (arith, le)
+few_above low numbers (x ∷ xs) h k le =
+    let below : x.number < numbers = All-head (λ y. y.number < numbers) x xs k in
+    let from : low ≤ x.number = h.0 in
+    let rest : length xs + (x.number + 1) ≤ numbers = few_above (x.number + 1) numbers xs h.1 (All-tail (λ y. y.number < numbers) x xs k) (omega (arith, below)) in
+    omega (arith, from, rest)
+
+module _ (agents numbers nodes : ℕ) (outcomes : List WorkOutcome) (ok : AreAlive agents numbers nodes outcomes) where
+  -- there are no more than numbers
+  pub few_alive : length outcomes ≤ numbers
+  few_alive = let h : length outcomes + 0 ≤ numbers = few_above 0 numbers outcomes ok.rising ok.used (omega arith) in omega (arith, h)
+
+  -- some of them are
+  pub alive-filter : (test : WorkOutcome → Bool) → AreAlive agents numbers nodes (filter test outcomes)
+  alive-filter test = record {
+    rising = rises-passing test 0 outcomes ok.rising;
+    used = All-filter test (λ x. x.number < numbers) outcomes ok.used;
+    fit = All-filter test (λ x. length x.targets ≡ agents) outcomes ok.fit;
+    there = All-filter test (λ x. x.node < nodes) outcomes ok.there;
+  }
+
+  -- they are where one has other targets, another node and other passed atoms
+  pub alive-set : (o : ℕ) (targets : List (Option ℕ)) (node : ℕ) (passed : List ℕ) → length targets ≡ agents → node < nodes →
+      AreAlive agents numbers nodes (map (λ x. cond (x.number == o) (changed targets node passed x) x) outcomes)
+  alive-set o targets node passed fit there = record {
+    rising = subst IsRising (sym (numbers-changed change same outcomes)) ok.rising;
+    used = All-changed (λ x. x.number < numbers) change (λ x h. subst (λ n. n < numbers) (sym (same x)) h) outcomes ok.used;
+    fit = All-changed (λ x. length x.targets ≡ agents) change (λ x h. either (λ y. length y.targets ≡ agents) x fit h) outcomes ok.fit;
+    there = All-changed (λ x. x.node < nodes) change (λ x h. either (λ y. y.node < nodes) x there h) outcomes ok.there;
+  }
+    where
+      change : WorkOutcome → WorkOutcome
+      change x = cond (x.number == o) (changed targets node passed x) x
+
+      same : (x : WorkOutcome) → (change x).number ≡ x.number
+      same x = go (x.number == o)
+        where
+          go : (b : Bool) → (cond b (changed targets node passed x) x).number ≡ x.number
+          go true = refl
+          go false = refl
+
+      either : (P : WorkOutcome → Type 0) (x : WorkOutcome) → P (changed targets node passed x) → P x → P (change x)
+      either P x h k = go (x.number == o)
+        where
+          go : (b : Bool) → P (cond b (changed targets node passed x) x)
+          go true = h
+          go false = k
+
+  -- they are with one of the least number that was never used
+  pub alive-add : (n : ℕ) (targets : List (Option ℕ)) (node : ℕ) (passed : List ℕ) → length targets ≡ agents → node < nodes →
+      AreAlive agents (numbers + 1) nodes (outcomes ++ record { number = numbers; atom = n; targets = targets; node = node; passed = passed } ∷ [])
+  alive-add n targets node passed fit there = record {
+    rising = subst IsRising (sym (map-append (λ x. x.number) outcomes (new ∷ [])))
+        (rises-append 0 numbers (numbers_of outcomes) (numbers ∷ []) (omega arith) ok.rising (All-numbers (λ m. m < numbers) outcomes ok.used) (omega arith, tt));
+    used = All-append (λ x. x.number < numbers + 1) outcomes (new ∷ []) (All-weaker (λ x. x.number < numbers) (λ x. x.number < numbers + 1) (λ x h. let l : x.number < numbers = h in omega (arith, l)) outcomes ok.used) (single (λ x. x.number < numbers + 1) (omega arith));
+    fit = All-append (λ x. length x.targets ≡ agents) outcomes (new ∷ []) ok.fit (single (λ x. length x.targets ≡ agents) fit);
+    there = All-append (λ x. x.node < nodes) outcomes (new ∷ []) ok.there (single (λ x. x.node < nodes) there);
+  }
+    where
+      new : WorkOutcome
+      new = record { number = numbers; atom = n; targets = targets; node = node; passed = passed }
+
+      single : (P : WorkOutcome → Type 0) → P new → All P (new ∷ [])
+      single P h = All-cons P new [] h (All-nil P)

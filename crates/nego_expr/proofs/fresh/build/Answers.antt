@@ -1,0 +1,45 @@
+use Rattle.std.proofs.Common.{sym}
+use Rattle.nego_expr.specs.declared.work.Work.TheInside.{Inside}
+use Rattle.nego_expr.proofs.FreshBuilt.{IsBuilt, built_work, built_usable}
+use Rattle.nego_expr.proofs.fresh.build.Goals as goal
+use Rattle.nego_expr.proofs.fresh.build.Goals.{In_ok-parties_of_outcomes}
+
+-- the fields
+fields : In_ok-parties_of_outcomes → Inside
+fields c = record {
+  agents = c.agents.result;
+  left = c.all_atoms.result;
+  parties = c.in_ok-parties_of_atoms.field-0;
+  first = c.first.result;
+  last = c.last.result;
+  nodes = c.in_ok-base_nodes.field-0;
+  numbers = c.outcomes-2.result;
+  outcomes = c.in_ok-outcomes_of.field-0;
+  names = c.in_ok-final_names.field-0;
+  bases = c.in_ok-parties_of_outcomes.field-0;
+}
+
+-- are those of the fresh work
+built : (c : In_ok-parties_of_outcomes) → IsBuilt c.args.d.now (fields c)
+unfolding fields
+built c = record {
+  agents = c.agents.ensures.value;
+  left = rw (sym c.atoms.ensures.value) c.all_atoms.ensures;
+  parties = c.in_ok-parties_of_atoms.ensures;
+  first = c.first.ensures.value;
+  last = c.last.ensures.value;
+  nodes = rw (sym c.outcomes.ensures.value) c.in_ok-base_nodes.ensures.nodes;
+  room = c.in_ok-base_nodes.ensures.room;
+  numbers = c.outcomes-2.ensures.value;
+  outcomes = c.in_ok-outcomes_of.ensures;
+  names = c.in_ok-final_names.ensures;
+  bases = c.in_ok-parties_of_outcomes.ensures;
+}
+
+pub invariant_of-result : goal.invariant_of-result
+unfolding fields
+invariant_of-result c = built_usable c.args.d.now (fields c) (built c) c.agents.ensures.limits
+
+pub returns : goal.returns
+unfolding fields
+returns c = built_work c.args.d.now (fields c) (built c)

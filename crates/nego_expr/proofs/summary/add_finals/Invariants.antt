@@ -1,0 +1,7 @@
+use Rattle.std.proofs.Common.{map, take}
+use Rattle.nego_expr.specs.SummaryText.{Appends, plain_final, final_lines}
+use Rattle.nego_expr.proofs.summary.add_finals.Given as goal
+
+-- the lines of the final outcomes so far
+abbrev pub invariant-loop-outcome : goal.invariant-loop-outcome
+invariant-loop-outcome l = Appends l.initial.text l.text (final_lines (map plain_final (take l.outcome-index l.finals)))

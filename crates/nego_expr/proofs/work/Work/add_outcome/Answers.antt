@@ -1,0 +1,27 @@
+use Rattle.std.proofs.Common.{◌≡◌, ◌+◌, ◌<◌, ◌∙◌, [], ◌∷◌, ◌++◌, length, map, sym, subst, ap, arith}
+use Rattle.std.proofs.lemmas.List.{map-append}
+use Rattle.nego_expr.specs.Work.{WorkOutcome}
+use Rattle.nego_expr.specs.Plain.{RoomyWork}
+use Rattle.nego_expr.specs.WorkView.{plain_outcome, AreAlive}
+use Rattle.nego_expr.proofs.UsableWorks.{alive-add}
+use Rattle.nego_expr.proofs.work.Work.add_outcome.Goals as goal
+
+pub invariant_of-self : goal.invariant_of-self
+invariant_of-self c =
+    let w = c.self.inside in
+    let ys = map plain_outcome w.outcomes.items in
+    let new : WorkOutcome = record { number = w.numbers; atom = c.args.n.0; targets = c.args.targets; node = c.args.node.0; passed = c.args.passed } in
+    let fit = λ (v : RoomyWork). length c.args.targets ≡ v.plain.agents in
+    let there = λ (v : RoomyWork). c.args.node.0 < length v.plain.nodes in
+    let seen : map plain_outcome c.push.new.self.items ≡ ys ++ new ∷ [] = ap (map plain_outcome) c.push.ensures.items ∙ map-append plain_outcome w.outcomes.items _ in
+    let spare = λ (v : RoomyWork). 0 < v.spare_outcomes in
+    let more = subst spare (sym c.self.view_is) c.requires.spare in
+    record {
+      few_agents = c.self.invariant.few_agents;
+      few_atoms = c.self.invariant.few_atoms;
+      left_below = c.self.invariant.left_below;
+      alive = subst (AreAlive w.agents (w.numbers + 1) (length w.nodes.nodes)) (sym seen)
+          (alive-add w.agents w.numbers (length w.nodes.nodes) ys c.self.invariant.alive c.args.n.0 c.args.targets c.args.node.0 c.args.passed
+          (subst fit (sym c.self.view_is) c.requires.fit) (subst there (sym c.self.view_is) c.requires.there));
+      few_numbers = omega (arith, more);
+    }

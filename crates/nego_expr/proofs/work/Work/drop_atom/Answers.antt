@@ -1,0 +1,54 @@
+use Rattle.std.proofs.Common.{rules, ◌≡◌, ◌<◌, ◌≤◌, ◌==◌, not, List, length, map, refl, sym, subst, ap, ap₂, ◌∙◌, arith}
+use Rattle.std.specs.List.{All, filter}
+use Rattle.std.proofs.lemmas.List.Elements.{All-filter}
+use Rattle.std.proofs.lemmas.Fn.{filter_same}
+use Rattle.std.proofs.lemmas.List.Filters.{length-filter_both}
+use Rattle.nego_base.proofs.Members.{All-member}
+use Rattle.nego_expr.specs.declared.work.Alive.{Alive}
+use Rattle.nego_expr.specs.Work.{WorkAtom, WorkOutcome}
+use Rattle.nego_expr.specs.WorkView.{plain_outcome, plain_work, atom_among, AreAlive}
+use Rattle.nego_expr.proofs.Places.{filter-seen}
+use Rattle.nego_expr.proofs.UsableWorks.{left_there, atoms-without, alive-filter}
+use Rattle.nego_expr.proofs.work.Work.drop_atom.Goals as goal
+
+pub without-self-inside-requires : goal.without-self-inside-requires
+without-self-inside-requires c =
+    let below : c.args.n.0 < length c.self.inside.parties =
+    All-member (λ n. n < length c.self.inside.parties) c.args.n.0 c.self.inside.left c.self.invariant.left_below
+    (left_there c.self.inside c.args.self.now c.args.n.0 c.self.view_is c.requires.left) in
+    let few : length c.self.inside.parties ≤ 64 = c.self.invariant.few_atoms in
+    omega (arith, below, few)
+
+-- the items that are kept
+kept : (c : goal.After-retain) → c.retain.new.self.items ≡ filter (λ (x : Alive). not (x.atom.0 == c.args.n.0)) c.self.inside.outcomes.items
+kept c = filter_same _ (λ (x : Alive). not (x.atom.0 == c.args.n.0)) _ (λ x b f called. search rules) _ _ c.retain.ensures.items
+
+-- the outcomes after the edit
+after : (c : goal.After-retain) → map plain_outcome c.retain.new.self.items ≡ filter (λ x. not (x.atom == c.args.n.0)) (map plain_outcome c.self.inside.outcomes.items)
+after c = ap (map plain_outcome) (kept c) ∙ filter-seen plain_outcome (λ x. not (x.atom == c.args.n.0)) c.self.inside.outcomes.items
+
+pub invariant_of-self : goal.invariant_of-self
+invariant_of-self c =
+    let w = c.self.inside in
+    record {
+      few_agents = c.self.invariant.few_agents;
+      few_atoms = c.self.invariant.few_atoms;
+      left_below = subst (λ ns. All (λ n. n < length w.parties) ns) (sym c.without-self-inside.ensures.value)
+          (All-filter (λ n. not (n == c.args.n.0)) (λ n. n < length w.parties) w.left c.self.invariant.left_below);
+      alive = subst (AreAlive w.agents w.numbers (length w.nodes.nodes)) (sym (after c))
+          (alive-filter w.agents w.numbers (length w.nodes.nodes) (map plain_outcome w.outcomes.items) c.self.invariant.alive (λ x. not (x.atom == c.args.n.0)));
+      few_numbers = c.self.invariant.few_numbers;
+    }
+
+pub returns-clause-plain : goal.returns-clause-plain
+returns-clause-plain c =
+    let w = c.self.inside in
+    rw (← c.self.view_is) (ap₂ (λ (atoms : List WorkAtom) (outcomes : List WorkOutcome). record (plain_work w) { atoms = atoms; outcomes = outcomes })
+    (ap (map (atom_among w.parties)) c.without-self-inside.ensures.value ∙ atoms-without w.parties c.args.n.0 w.left) (after c))
+
+pub returns-clause-kept : goal.returns-clause-kept
+returns-clause-kept c =
+    let all = length-filter_both (λ (x : Alive). not (x.atom.0 == c.args.n.0)) (λ x. not (not (x.atom.0 == c.args.n.0))) (λ x. refl) c.self.inside.outcomes.items in
+    let same = ap length (kept c) in
+    let more : c.self.inside.outcomes.room ≤ c.retain.new.self.room = omega (arith, all, same, c.retain.ensures.room) in
+    rw (← c.self.view_is) (omega arith, omega (arith, more))

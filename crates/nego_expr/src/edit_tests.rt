@@ -1,0 +1,77 @@
+//! A work under edits, and room for them.
+
+use crate::{Node, Nodes, RuleFault, Targets, Work};
+use nego_base::{AgentId, AgentSet, AtomId, AtomSet, Memory, OutcomeId, Reserved, Seq};
+use std::alloc::Global;
+use std::process::Abort;
+use std::test::Fail;
+
+const FIRST: AtomId = AtomId(0);
+
+const LAST: AtomId = AtomId(1);
+
+#[test]
+fn edits_follow_one_another(rt: HostRuntime) -> Result<(), Fail> {
+    let alloc = rt.alloc();
+    let mut w = two_atoms(alloc)?;
+    assert_eq!(rt; w.room(20_001, 0), Err(RuleFault::Nodes));
+    w.room(20_000, 2)?;
+    let base = w.add_node(Node::Base(OutcomeId(0)));
+    assert!(rt; w.left().has(FIRST) && w.left().has(LAST));
+    let o = w.add_outcome(
+        FIRST,
+        Targets::none(alloc, w.agents()),
+        base,
+        AtomSet::none(),
+    );
+    let p = w.add_outcome(
+        LAST,
+        Targets::none(alloc, w.agents()),
+        base,
+        AtomSet::none(),
+    );
+    assert!(rt; o == OutcomeId(0) && p == OutcomeId(1) && w.numbers() == 2);
+    assert!(rt; w.alive(o) && w.alive(p) && !w.alive(OutcomeId(2)));
+    assert!(rt; w.atom_of(o) == FIRST && w.count_of(LAST) == 1);
+    let star = w.add_node(Node::Star(base));
+    w.set_outcome(
+        p,
+        Targets::none(alloc, w.agents()),
+        star,
+        AtomSet::none().with(FIRST),
+    );
+    assert!(rt; w.alive(p) && w.node_of(p) == star && w.passed(p).has(FIRST));
+    leave_last(&rt, &mut w, o);
+    assert!(rt; w.alive(p));
+    w.drop_outcome(p);
+    assert!(rt; !w.alive(p) && w.count_of(LAST) == 0);
+    Ok(())
+}
+
+fn leave_last(rt: &impl Abort, w: &mut Work, o: OutcomeId) {
+    assert!(rt; w.left().has(FIRST));
+    w.drop_atom(FIRST);
+    assert!(rt; w.left().has(LAST) && !w.left().has(FIRST) && !w.alive(o));
+    w.set_first(LAST);
+    assert!(rt; w.first() == LAST && w.last() == LAST && w.parties(LAST).count() == 1);
+}
+
+/// A work of two atoms that has no outcome yet.
+fn two_atoms(alloc: Global) -> Result<Work, Memory> {
+    let everyone = AgentSet::none().with(AgentId(0));
+    let mut parties = Seq::new(alloc);
+    parties.push(everyone)?;
+    parties.push(everyone)?;
+    Ok(Work {
+        agents: 1,
+        left: AtomSet::none().with(FIRST).with(LAST),
+        parties,
+        first: FIRST,
+        last: LAST,
+        nodes: Nodes::new(alloc, 0)?,
+        numbers: 0,
+        outcomes: Reserved::new(alloc, 0)?,
+        names: Seq::new(alloc),
+        bases: Seq::new(alloc),
+    })
+}

@@ -1,0 +1,191 @@
+//! The work that a deterministic diagram begins as.
+ghost use Rattle.std.specs.Prelude.{◌≡◌, ℕ, ◌<◌, ◌≤◌, length, map, slice_get, IfSome, IfNone, IfOk, OnOk, IfErr};
+ghost use Rattle.std.specs.List.{range_with_len};
+ghost use Rattle.nego_model.specs.Negotiation.{IsDeterministic};
+ghost use Rattle.nego_model.specs.Expression.{Base};
+ghost use Rattle.nego_model.specs.Diagram.{IsDiagram, negotiation_of, parties_of, nexts_of, outcome_name};
+ghost use Rattle.nego_model.specs.Limits.{IsWithinLimits};
+ghost use Rattle.nego_model.specs.Summary.{final_outcomes};
+ghost use Rattle.nego_expr.specs.Work.{IsWork};
+ghost use Rattle.nego_expr.specs.Fresh.{HasTheRuns, Stands, fresh_at, fresh_work, outcomes_of};
+ghost use Rattle.nego_expr.specs.Plain.{IsFirstUndetermined, WorkFaultHolds};
+ghost use Rattle.nego_expr.specs.Use.{most_nodes};
+ghost use Rattle.nego_expr.specs.WorkView.{plain_outcome};
+
+use crate::work::Alive;
+use crate::{Node, Nodes, Targets, Work, WorkFault};
+use nego_base::{
+    AgentId, AgentSet, AtomId, AtomSet, Memory, NodeId, OutcomeId, Reserved, Seq, Text,
+};
+use nego_model::Diagram;
+use std::alloc::Global;
+
+impl Work {
+    /// The work that a deterministic diagram begins as. Its outcomes keep their numbers, and each is its own
+    /// expression.
+    pub fn new(alloc: Global, d: &Diagram) -> Result<Work, WorkFault>
+        ensures ok { IfOk result (λ w. w.plain ≡ fresh_work d.now) }
+        ensures work { IfOk result (λ w. IsWork w.plain) }
+        ensures stands { IfOk result (λ w. Stands w.plain d.now) }
+        ensures diagram { IsDiagram d.now }
+        ensures runs { IfOk result (λ w. HasTheRuns w.plain d.now) }
+        ensures determined { OnOk result (IsDeterministic (negotiation_of d.now)) }
+        // `NotDeterministic` comes exactly where the diagram isn't, with the least pair.
+        ensures err { IfErr result (λ e. WorkFaultHolds d.now e) }
+    {
+        if let Some((o, a)) = first_undetermined(d) {
+            return Err(WorkFault::NotDeterministic(o, a));
+        }
+        Ok(build(alloc, d)?)
+    }
+}
+
+/// The least outcome, and the least agent after it, with two next atoms or more.
+fn first_undetermined(d: &Diagram) -> Option<(OutcomeId, AgentId)>
+    ensures some { IfSome result (λ pair. IsFirstUndetermined d.now pair.0.0 pair.1.0) }
+    ensures none { IfNone result (IsDeterministic (negotiation_of d.now)) }
+    ensures diagram { IsDiagram d.now }
+{
+    for o in 0..d.outcomes() {
+        let o = OutcomeId(o);
+        if let Some(a) = undetermined_after(d, o) {
+            return Some((o, a));
+        }
+    }
+    None
+}
+
+/// The least agent with two next atoms or more after the outcome.
+fn undetermined_after(d: &Diagram, o: OutcomeId) -> Option<AgentId>
+    requires { o.0 < length d.now.outcomes }
+    ensures agent { IfSome result (λ a. a.0 < length d.now.agents) }
+    ensures two { IfSome result (λ a. 1 < length (nexts_of d.now o.0 a.0)) }
+    ensures least { IfSome result (λ a. (b : ℕ) → b < a.0 → length (nexts_of d.now o.0 b) ≤ 1) }
+    ensures none { IfNone result ((b : ℕ) → b < length d.now.agents → length (nexts_of d.now o.0 b) ≤ 1) }
+{
+    for a in 0..d.agents() {
+        let a = AgentId(a);
+        if d.nexts(o, a).count() > 1 {
+            return Some(a);
+        }
+    }
+    None
+}
+
+/// The fresh work.
+fn build(alloc: Global, d: &Diagram) -> Result<Work, Memory>
+    ensures { IfOk result (λ w. w.plain ≡ fresh_work d.now) }
+{
+    Ok(Work {
+        agents: d.agents(),
+        left: all_atoms(d.atoms()),
+        parties: parties_of_atoms(alloc, d)?,
+        first: d.first(),
+        last: d.last(),
+        nodes: base_nodes(alloc, d.outcomes())?,
+        numbers: d.outcomes(),
+        outcomes: outcomes_of(alloc, d)?,
+        names: final_names(alloc, d)?,
+        bases: parties_of_outcomes(alloc, d)?,
+    })
+}
+
+/// The atoms of the numbers below the count.
+fn all_atoms(count: u32) -> AtomSet
+    requires { count ≤ 64 }
+    ensures { result ≡ range_with_len 0 count }
+{
+    let mut all = AtomSet::none();
+    for n in 0..count {
+        all = all.with(AtomId(n));
+    }
+    all
+}
+
+/// The parties of each atom.
+fn parties_of_atoms(alloc: Global, d: &Diagram) -> Result<Seq<AgentSet>, Memory>
+    ensures { IfOk result (λ parties. parties ≡ map (parties_of d.now) (range_with_len 0 (length d.now.atoms))) }
+{
+    let mut parties = Seq::new(alloc);
+    for n in 0..d.atoms() {
+        parties.push(d.parties(AtomId(n)))?;
+    }
+    Ok(parties)
+}
+
+/// A node for each outcome.
+fn base_nodes(alloc: Global, count: u32) -> Result<Nodes, Memory>
+    requires { count ≤ most_nodes }
+    ensures nodes { IfOk result (λ made. made.nodes ≡ map Base (range_with_len 0 count)) }
+    ensures room { IfOk result (λ made. made.room ≡ 0) }
+{
+    let mut nodes = Nodes::new(alloc, count)?;
+    for o in 0..count {
+        nodes.push(Node::Base(OutcomeId(o)));
+    }
+    Ok(nodes)
+}
+
+/// The alive outcomes: all that there are.
+fn outcomes_of(alloc: Global, d: &Diagram) -> Result<Reserved<Alive>, Memory>
+    ensures { IfOk result (λ outcomes. map plain_outcome outcomes.items ≡ outcomes_of d.now 0 d.now.outcomes) }
+{
+    let mut outcomes = Reserved::new(alloc, d.outcomes() as usize)?;
+    for o in 0..d.outcomes() {
+        outcomes.push(fresh_outcome(alloc, d, OutcomeId(o)));
+    }
+    Ok(outcomes)
+}
+
+/// The outcome as it is alive at first.
+fn fresh_outcome(alloc: Global, d: &Diagram, o: OutcomeId) -> Alive
+    requires { o.0 < length d.now.outcomes }
+    ensures { plain_outcome result ≡ fresh_at d.now o.0 }
+{
+    Alive {
+        number: o,
+        atom: d.atom_of(o),
+        targets: targets_after(alloc, d, o),
+        node: NodeId(o.0),
+        passed: AtomSet::none(),
+    }
+}
+
+/// Where the outcome sends each agent: to its next atom.
+fn targets_after(alloc: Global, d: &Diagram, o: OutcomeId) -> Targets
+    requires { o.0 < length d.now.outcomes }
+    ensures { result ≡ map (λ a. slice_get (nexts_of d.now o.0 a) 0) (range_with_len 0 (length d.now.agents)) }
+{
+    let mut targets = Targets::none(alloc, d.agents());
+    for a in 0..d.agents() {
+        let a = AgentId(a);
+        if let Some(n) = d.nexts(o, a).least() {
+            targets.set(a, n);
+        }
+    }
+    targets
+}
+
+/// The names of the last atom's outcomes.
+fn final_names(alloc: Global, d: &Diagram) -> Result<Seq<Text>, Memory>
+    requires { IsWithinLimits d.now }
+    ensures { IfOk result (λ names. names ≡ map (outcome_name d.now) (final_outcomes d.now)) }
+{
+    let (start, count) = d.outcomes_of(d.last());
+    let mut names = Seq::new(alloc);
+    for i in 0..count {
+        names.push(Text::copy(alloc, d.outcome_name(OutcomeId(start + i)))?)?;
+    }
+    Ok(names)
+}
+
+/// The parties of each outcome's atom.
+fn parties_of_outcomes(alloc: Global, d: &Diagram) -> Result<Seq<AgentSet>, Memory>
+    ensures { IfOk result (λ parties. parties ≡ map (λ outcome. parties_of d.now outcome.atom) d.now.outcomes) }
+{
+    let mut parties = Seq::new(alloc);
+    for o in 0..d.outcomes() {
+        parties.push(d.parties(d.atom_of(OutcomeId(o))))?;
+    }
+    Ok(parties)
+}

@@ -1,0 +1,66 @@
+//! Where an outcome sends the agents.
+ghost use Rattle.std.specs.Prelude.{◌≡◌, ◌<◌, ◌≤◌, Some, None, replicate, length, slice_get, slice_set, option_map};
+
+use nego_base::{AgentId, AtomId};
+use smallvec::SmallVec;
+use std::alloc::Global;
+use std::marker::Model;
+
+/// The most agents that there are.
+const MOST: usize = 16;
+
+/// Where an outcome sends each agent: an atom or nothing. Contracts see one entry for each agent. There is room in
+/// place for 16, so nothing here takes memory.
+#[derive(Debug, Drop)]
+pub struct Targets {
+    entries: SmallVec<Option<AtomId>, 16>,
+}
+
+impl Model for Targets {
+    ghost use Rattle.std.specs.Prelude.{ℕ, ◌≤◌, List, Option, map, option_map, length};
+
+    ghost Value = { List (Option ℕ) };
+
+    ghost view = { λ t. map (option_map (λ n. n.0)) t.entries.items };
+
+    ghost invariant = { λ t. length t.entries.items ≤ 16 };
+}
+
+impl Targets {
+    /// Nothing for each of so many agents.
+    pub fn none(alloc: Global, agents: u32) -> Targets
+        requires { agents ≤ 16 }
+        ensures { result ≡ replicate agents None }
+    {
+        let nothing = [None; MOST];
+        Targets {
+            entries: SmallVec::from_slice(alloc, &nothing[..agents as usize]).unwrap(),
+        }
+    }
+
+    /// Where the agent is sent.
+    pub fn get(&self, a: AgentId) -> Option<AtomId>
+        requires { a.0 < length self.now }
+        ensures { slice_get self.now a.0 ≡ Some (option_map (λ n. n.0) result) }
+    {
+        self.entries.as_slice()[a.0 as usize]
+    }
+
+    /// Sends the agent to the atom.
+    pub fn set(&mut self, a: AgentId, n: AtomId)
+        requires { a.0 < length self.old }
+        ensures { self.new ≡ slice_set self.old a.0 (Some n.0) }
+    {
+        self.entries.as_mut_slice()[a.0 as usize] = Some(n);
+    }
+
+    /// The same targets once more.
+    pub fn copy(&self) -> Targets
+        ensures { result ≡ self.now }
+    {
+        let entries = &self.entries;
+        Targets {
+            entries: SmallVec::from_slice(*entries.allocator(), entries.as_slice()).unwrap(),
+        }
+    }
+}
