@@ -1,1 +1,3 @@
-pub mod Merging
+pub mod SendAlike
+pub mod MergeEdits
+pub mod MergeKeeps

@@ -2,5 +2,7 @@
 #![tactic(auto)]
 
 mod law;
+mod merging;
 
 pub use law::merging_keeps;
+pub use merging::{can_merge, merge};

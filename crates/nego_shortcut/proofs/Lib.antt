@@ -1,1 +1,4 @@
-pub mod Closing
+pub mod CloseEdits
+pub mod CloseKeeps
+pub mod Composed
+pub mod Found

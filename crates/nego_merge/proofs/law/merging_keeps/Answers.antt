@@ -1,4 +1,4 @@
-use Rattle.nego_merge.proofs.Merging.{merging}
+use Rattle.nego_merge.proofs.MergeKeeps.{merging}
 use Rattle.nego_merge.proofs.law.merging_keeps.Goals as goal
 
 pub returns : goal.returns

@@ -1,4 +1,4 @@
-use Rattle.nego_shortcut.proofs.Closing.{closing}
+use Rattle.nego_shortcut.proofs.CloseKeeps.{closing}
 use Rattle.nego_shortcut.proofs.law.closing_keeps.Goals as goal
 
 pub returns : goal.returns

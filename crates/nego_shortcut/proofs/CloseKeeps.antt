@@ -21,7 +21,7 @@ use Rattle.nego_model.proofs.Ways.{after_all_at_last, runs_pass_all_at_last, Run
 use Rattle.nego_model.proofs.Gathered.{all_ready-enables, after_gathered, after_nothing_ready, after_all_sent, all_ready-same}
 use Rattle.nego_model.proofs.Simulating.{Lasts, Lasts-led}
 use Rattle.nego_expr.specs.Work.{WorkOutcome, PlainWork, outcome_at, work_parties, work_outcomes, sent_to, negotiation_of_work, ByWork, IsWork}
-use Rattle.nego_expr.specs.Use.{same_target, one_sends_all, outcomes_at, nodes_then, closed_of, closed_by, closed}
+use Rattle.nego_expr.specs.Use.{same_target, one_sends_all, outcomes_at, nodes_then, can_close, closed_of, closed_by, closed}
 use Rattle.nego_expr.specs.Keeps.{Keeps}
 use Rattle.nego_expr.proofs.Alive.{each_found, ByWork-found}
 use Rattle.nego_expr.proofs.OneAtomLeft.{one_atom_left_sound, one_step_runs}
@@ -54,7 +54,7 @@ one_sends count n (x ∷ []) h = (
 one_sends count n (x ∷ y ∷ outcomes) h = absurd (false≢true h)
 
 -- of two numbers in a list of two, which differ, one is any third
-one_of_two : (xs : List ℕ) (a b n : ℕ) → length xs ≡ 2 → a ≢ b → IsTrue (is_in a xs) → IsTrue (is_in b xs) → IsTrue (is_in n xs) → (n ≡ a) ⊎ (n ≡ b)
+pub one_of_two : (xs : List ℕ) (a b n : ℕ) → length xs ≡ 2 → a ≢ b → IsTrue (is_in a xs) → IsTrue (is_in b xs) → IsTrue (is_in n xs) → (n ≡ a) ⊎ (n ≡ b)
 one_of_two [] a b n l h p q r = absurd (is_in_none n [] refl r)
 one_of_two (x ∷ []) a b n l h p q r = absurd (h (is_in_single a x p ∙ sym (is_in_single b x q)))
 one_of_two (x ∷ y ∷ z ∷ zs) a b n l h p q r = absurd (let no_more : ⊥ = omega (arith, l) in no_more)
@@ -357,18 +357,25 @@ module _ (work : PlainWork) (x : WorkOutcome) (ok : IsWork work) (closes : Close
         );
   }
 
+-- where a closing is allowed, it is by one outcome
+pub closing_one : (work : PlainWork) → IsTrue (can_close work) → (x : WorkOutcome) × Closes work x
+closing_one work guard =
+    let p = and_parts (length work.atoms == 2) (not (work.first == work.last) && one_sends_all work.agents work.last (outcomes_at work work.first)) guard in
+    let q = and_parts (not (work.first == work.last)) (one_sends_all work.agents work.last (outcomes_at work work.first)) p.1 in
+    let k = one_sends work.agents work.last (outcomes_at work work.first) q.1 in (
+      k.0,
+      record {
+        two = eqb-true (length work.atoms) 2 p.0;
+        apart = eqb-false work.first work.last (not-true (work.first == work.last) q.0);
+        only = k.1;
+        sends = k.2;
+      },
+    )
+
 -- An allowed closing leaves a work, and keeps soundness and what the runs relate.
 pub closing : ClosingKeeps
 closing work ok guard =
-    let p = and_parts (length work.atoms == 2) (not (work.first == work.last) && one_sends_all work.agents work.last (outcomes_at work work.first)) guard in
-    let q = and_parts (not (work.first == work.last)) (one_sends_all work.agents work.last (outcomes_at work work.first)) p.1 in
-    let k = one_sends work.agents work.last (outcomes_at work work.first) q.1 in
-    let closes : Closes work k.0 = record {
-      two = eqb-true (length work.atoms) 2 p.0;
-      apart = eqb-false work.first work.last (not-true (work.first == work.last) q.0);
-      only = k.1;
-      sends = k.2;
-    } in
+    let k = closing_one work guard in
     let P : PlainWork → Type 0 = λ w. IsWork w × Keeps work w in
-    let e : closed work ≡ closed_of work k.0 = ap (closed_by work) k.1 in
-    subst P (sym e) (closed_work work k.0 ok closes, closed_keeps work k.0 ok closes)
+    let e : closed work ≡ closed_of work k.0 = ap (closed_by work) k.1.only in
+    subst P (sym e) (closed_work work k.0 ok k.1, closed_keeps work k.0 ok k.1)

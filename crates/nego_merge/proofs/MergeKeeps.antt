@@ -19,7 +19,7 @@ use Rattle.nego_model.proofs.Expressions.{Means-newest, EachBase-newest, EachBas
 use Rattle.nego_model.proofs.Reached.{Leads_one, Reaches_one}
 use Rattle.nego_model.proofs.Simulating.{SameAtoms, SameAtoms-turned, same-after, Anywhere, StepsLed, StepsReached, Sound-same, Runs-same}
 use Rattle.nego_expr.specs.Work.{WorkOutcome, PlainWork, outcome_at, work_parties, work_outcomes, sent_to, negotiation_of_work, ByWork, IsWork}
-use Rattle.nego_expr.specs.Use.{same_target, merges, united, without_outcome, merged_of, merged}
+use Rattle.nego_expr.specs.Use.{same_target, merges, can_merge, united, without_outcome, merged_of, merged}
 use Rattle.nego_expr.specs.Keeps.{Keeps}
 use Rattle.nego_expr.proofs.Alive.{each_found, ByWork-found}
 use Rattle.nego_expr.proofs.AddedNodes.{IsNodeList-append, EachBase-append, ByWork-kept}
@@ -357,13 +357,21 @@ module _ (work : PlainWork) (x y : WorkOutcome) (ok : IsWork work) (two : Merges
     );
   }
 
+-- where a merge is allowed, two outcomes are found, and it is the merge of these
+pub merging_pair : (work : PlainWork) (o1 o2 : ℕ) → IsTrue (can_merge work o1 o2) →
+    (x : WorkOutcome) × (y : WorkOutcome) × (outcome_at work o1 ≡ Some x) × (outcome_at work o2 ≡ Some y) × Merges work x y
+merging_pair work o1 o2 guard =
+    let p = and_parts (nat_lt o1 o2) (merges work (outcome_at work o1) (outcome_at work o2)) guard in
+    merges_parts work o1 o2 (outcome_at work o1) (outcome_at work o2) (ltb-true o1 o2 p.0) refl refl p.1
+
+pub merged-pair : (work : PlainWork) (o1 o2 : ℕ) (x y : WorkOutcome) → outcome_at work o1 ≡ Some x → outcome_at work o2 ≡ Some y → merged work o1 o2 ≡ merged_of work x y
+merged-pair work o1 o2 x y e k =
+    ap (λ f. option_map_or (λ z. option_map_or (λ w. merged_of work z w) (outcome_at work o2) work) f work) e
+    ∙ ap (λ g. option_map_or (λ w. merged_of work x w) g work) k
+
 -- An allowed merge leaves a work, and keeps soundness and what the runs relate.
 pub merging : MergingKeeps
 merging work o1 o2 ok guard =
-    let p = and_parts (nat_lt o1 o2) (merges work (outcome_at work o1) (outcome_at work o2)) guard in
-    let k = merges_parts work o1 o2 (outcome_at work o1) (outcome_at work o2) (ltb-true o1 o2 p.0) refl refl p.1 in
+    let k = merging_pair work o1 o2 guard in
     let P : PlainWork → Type 0 = λ w. IsWork w × Keeps work w in
-    let e : merged work o1 o2 ≡ merged_of work k.0 k.1 =
-    ap (λ f. option_map_or (λ x. option_map_or (λ y. merged_of work x y) (outcome_at work o2) work) f work) k.2
-    ∙ ap (λ g. option_map_or (λ y. merged_of work k.0 y) g work) k.3 in
-    subst P (sym e) (merged_work work k.0 k.1 ok k.4, merged_keeps work k.0 k.1 ok k.4)
+    subst P (sym (merged-pair work o1 o2 k.0 k.1 k.2 k.3)) (merged_work work k.0 k.1 ok k.4, merged_keeps work k.0 k.1 ok k.4)
