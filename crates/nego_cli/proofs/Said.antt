@@ -1,8 +1,11 @@
 -- What was found and put out is what the status says, and no other status could be.
-use Rattle.std.proofs.Common.{◌≡◌, ◌≢◌, ◌⊎◌, ℕ, List, [], ◌++◌, refl, sym, ap, subst, ◌∙◌, inl, inr}
-use Rattle.std.proofs.lemmas.Option.{same_Some}
+use Rattle.std.proofs.Common.{◌≡◌, ◌⊎◌, ℕ, List, [], refl, sym, ap, subst, ◌∙◌, inl, inr}
 use Rattle.nego_io.specs.Outside.{WhereTold}
 use Rattle.nego_io.specs.Part.{Whole, reading}
+use Rattle.nego_reader.specs.declared.parsed.Parsed.{Parsed}
+use Rattle.nego_reader.specs.Spelling.{Spells}
+use Rattle.nego_reader.specs.Content.{content_of}
+use Rattle.nego_reader.proofs.Said.{spelled_once}
 use Rattle.nego_cli.specs.declared.answer.Answer.{Answer}
 use Rattle.nego_cli.specs.declared.answer.Answer.TheVariants as answers
 use Rattle.nego_cli.specs.declared.refusal.Refusal.{Refusal}
@@ -10,14 +13,12 @@ use Rattle.nego_cli.specs.declared.refusal.Refusal.TheVariants as refusals
 use Rattle.nego_cli.specs.declared.status.Status.{Status}
 use Rattle.nego_cli.specs.declared.status.Status.TheVariants as statuses
 use Rattle.nego_cli.specs.declared.top.TheConstants.{PART_LIMIT}
-use Rattle.nego_cli.specs.Small.{SmallForm, IsSmall, small_text, summary_of}
-use Rattle.nego_cli.specs.Texts.{reduction_text, usage_line, read_fault_line, memory_line}
-use Rattle.nego_cli.specs.Reading.{form_at}
-use Rattle.nego_cli.specs.Answer.{Change, Failed, Put, PutFront, Reply, Reduced, BadWords, Refuses, ReadFails, MemoryFails, Causes, reduce_words, status_of, IsReason, IsFault, Says, OutFails, ErrFails}
+use Rattle.nego_cli.specs.Solo.{SoloForm}
+use Rattle.nego_cli.specs.Texts.{usage_line, read_fault_line, memory_line}
+use Rattle.nego_cli.specs.Answer.{Change, Failed, Put, Reply, Reduced, BadWords, Refuses, ReadFails, MemoryFails, Causes, IsReduce, SpellsForm, SpellsNoForm, IsReductionOf, status_of, IsReason, IsFault, Says, OutFails, ErrFails}
 use Rattle.nego_cli.specs.Handed.{IsFound, LinePut, IsDelivered}
-use Rattle.nego_cli.proofs.Closed.{small_read}
-use Rattle.nego_cli.proofs.Forms.{form_again}
 use Rattle.nego_cli.proofs.Found.{told_then}
+use Rattle.nego_cli.proofs.SoloContents.{one_content}
 
 -- ---- what is said
 
@@ -32,9 +33,9 @@ line_said words source out err line wanted status reason nothing said (inr (e, f
     subst P (sym e) (inr (record { line = line; reason = reason; failed = failed; front = front; nothing = nothing }))
 
 pub what_is_said : (words : List (List ℕ)) (source out err : Change) (answer : Answer) (status : Status) → IsFound words source answer → IsDelivered answer out err status → Says words source out err status
-what_is_said words source out err (answers.Reduced text) statuses.Done (form, text_is, due) (put, nothing) = (form, due, subst (λ (t : List ℕ). Put t out) text_is put, nothing)
-what_is_said words source out err (answers.Reduced text) statuses.WriteFault (form, text_is, due) (failed, front, told) =
-    inl (record { form = form; due = due; failed = failed; front = subst (λ (t : List ℕ). PutFront t out) text_is front; told = told })
+what_is_said words source out err (answers.Reduced text) statuses.Done (form, reduction, due) (put, nothing) = (form, text, due, reduction, put, nothing)
+what_is_said words source out err (answers.Reduced text) statuses.WriteFault (form, reduction, due) (failed, front, told) =
+    inl (record { form = form; text = text; due = due; reduction = reduction; failed = failed; front = front; told = told })
 what_is_said words source out err (answers.Reduced text) statuses.Words found delivered = absurd delivered
 what_is_said words source out err (answers.Reduced text) statuses.Refused found delivered = absurd delivered
 what_is_said words source out err (answers.Reduced text) statuses.ReadFault found delivered = absurd delivered
@@ -50,29 +51,39 @@ what_is_said words source out err answers.Memory status trouble (nothing, put) =
 
 -- ---- one status
 
--- where an input is refused the words are right
-right_words : (words : List (List ℕ)) (input : List ℕ) (why : Refusal) → Causes words input (Refuses why) → words ≡ reduce_words
-right_words words input refusals.TooLong cause = cause.0
-right_words words input (refusals.NoEnd line) cause = cause.0
-right_words words input refusals.NotYet cause = cause.0
+-- a part of an input is one
+one_part : (input part left part' left' : List ℕ) → reading PART_LIMIT input ≡ Whole part left → reading PART_LIMIT input ≡ Whole part' left' → part ≡ part'
+one_part input part left part' left' e e' = let same : Whole part left ≡ Whole part' left' = sym e ∙ e' in cc
+
+-- a text that spells a diagram has no fault
+no_fault : (text text' : List ℕ) (form : SoloForm) → text ≡ text' → SpellsForm text form → ((p : Parsed) → ¬ Spells text' p) → ⊥
+no_fault text text' form e spelled none = none spelled.1.0 (subst (λ (t : List ℕ). Spells t spelled.1.0) e spelled.1.1)
+
+-- a text that spells a diagram of a form spells none that is of no form
+no_other : (text text' : List ℕ) (form : SoloForm) → text ≡ text' → SpellsForm text form → SpellsNoForm text' → ⊥
+no_other text text' form e (solo, (p, spelled, same)) none =
+    let (q, spelled', other) = subst (λ (t : List ℕ). SpellsNoForm t) (sym e) none in
+    let one : q ≡ p = spelled_once text q p spelled' spelled in
+    other form solo (ap content_of one ∙ same)
 
 -- a form is not refused
-not_refused : (words : List (List ℕ)) (input : List ℕ) (form : SmallForm) (why : Refusal) → Causes words input (Reduced form) → Causes words input (Refuses why) → ⊥
-not_refused words input form refusals.TooLong (right, small, (left, all, read)) (right', past) = let apart : Whole (small_text form) left ≡ _ = sym read ∙ past in cc
-not_refused words input form (refusals.NoEnd line) (right, small, (left, all, read)) (right', unended) = let apart : Whole (small_text form) left ≡ _ = sym read ∙ unended in cc
-not_refused words input form refusals.NotYet (right, small, (left, all, read)) (right', (part, left', read', other)) =
-    let same : Whole part left' ≡ Whole (small_text form) left = sym read' ∙ read in
-    other form small cc
+not_refused : (words : List (List ℕ)) (input : List ℕ) (form : SoloForm) (why : Refusal) → Causes words input (Reduced form) → Causes words input (Refuses why) → ⊥
+not_refused words input form refusals.TooLong (right, (part, left, read, spelled)) (right', past) = let apart : Whole part left ≡ _ = sym read ∙ past in cc
+not_refused words input form (refusals.NoEnd line) (right, (part, left, read, spelled)) (right', unended) = let apart : Whole part left ≡ _ = sym read ∙ unended in cc
+not_refused words input form (refusals.Off fault) (right, (part, left, read, spelled)) (right', (part', left', read', off)) =
+    no_fault part part' form (one_part input part left part' left' read read') spelled off.1
+not_refused words input form refusals.NotYet (right, (part, left, read, spelled)) (right', (part', left', read', none)) =
+    no_other part part' form (one_part input part left part' left' read read') spelled none
 
 -- all causes that stand together have one status
 one_status : (words : List (List ℕ)) (input : List ℕ) (reply other : Reply) → Causes words input reply → Causes words input other → status_of reply ≡ status_of other
 one_status words input BadWords BadWords cause cause' = refl
-one_status words input BadWords (Reduced form) wrong (right, small, (left, all, read)) = absurd (wrong right)
-one_status words input BadWords (Refuses why) wrong cause = absurd (wrong (right_words words input why cause))
-one_status words input (Reduced form) BadWords (right, small, (left, all, read)) wrong = absurd (wrong right)
+one_status words input BadWords (Reduced form) wrong cause = absurd (wrong cause.0)
+one_status words input BadWords (Refuses why) wrong cause = absurd (wrong cause.0)
+one_status words input (Reduced form) BadWords cause wrong = absurd (wrong cause.0)
 one_status words input (Reduced form) (Reduced form') cause cause' = refl
 one_status words input (Reduced form) (Refuses why) cause cause' = absurd (not_refused words input form why cause cause')
-one_status words input (Refuses why) BadWords cause wrong = absurd (wrong (right_words words input why cause))
+one_status words input (Refuses why) BadWords cause wrong = absurd (wrong cause.0)
 one_status words input (Refuses why) (Reduced form) cause cause' = absurd (not_refused words input form why cause' cause)
 one_status words input (Refuses why) (Refuses why') cause cause' = refl
 
@@ -87,8 +98,8 @@ write_told : (words : List (List ℕ)) (source out err : Change) → OutFails wo
 write_told words source out err (inl fails) = told_then source.before source.after _ _ (λ _ _ _. tt) fails.due.input
 write_told words source out err (inr fails) = reason_told words source fails.line fails.reason
 
-pub words_told : (words : List (List ℕ)) (source out err : Change) (status : Status) → Says words source out err status → words ≢ reduce_words → (status ≡ statuses.Words) ⊎ IsFault status
-words_told words source out err statuses.Done said wrong = absurd (wrong said.1.holds.0)
+pub words_told : (words : List (List ℕ)) (source out err : Change) (status : Status) → Says words source out err status → (¬ IsReduce words) → (status ≡ statuses.Words) ⊎ IsFault status
+words_told words source out err statuses.Done said wrong = absurd (wrong said.2.holds.0)
 words_told words source out err statuses.Words said wrong = inl refl
 words_told words source out err statuses.Refused said wrong = absurd (wrong said.1.holds)
 words_told words source out err statuses.ReadFault said wrong = inr (inl refl)
@@ -99,7 +110,7 @@ abbrev IsExact : List (List ℕ) → Status → List ℕ → List ℕ → Type 0
 IsExact words status input left = (reply : Reply) → Causes words input reply → (status ≡ status_of reply) ⊎ IsFault status
 
 pub exactly_told : (words : List (List ℕ)) (source out err : Change) (status : Status) → Says words source out err status → WhereTold source.before source.after (IsExact words status)
-exactly_told words source out err statuses.Done (form, due, put, nothing) =
+exactly_told words source out err statuses.Done (form, text, due, reduction, put, nothing) =
     told_then source.before source.after _ (IsExact words statuses.Done) (λ input left known reply cause. inl (one_status words input (Reduced form) reply known.0 cause)) due.input
 exactly_told words source out err statuses.Words (due, nothing, put) =
     told_then source.before source.after _ (IsExact words statuses.Words) (λ input left known reply cause. inl (one_status words input BadWords reply known.0 cause)) due.input
@@ -115,37 +126,38 @@ exactly_told words source out err statuses.Memory (trouble, nothing, put) =
 -- ---- completeness
 
 -- the form of a text is one
-one_form : (form other : SmallForm) → IsSmall form → IsSmall other → small_text form ≡ small_text other → form ≡ other
-one_form form other small small' e = same_Some form other (sym (form_again form small) ∙ (ap (λ (t : List ℕ). form_at t) e ∙ form_again other small'))
+one_form : (text text' : List ℕ) (form other : SoloForm) → text ≡ text' → SpellsForm text form → SpellsForm text' other → form ≡ other
+one_form text text' form other e (solo, (p, spelled, same)) spelled_other =
+    let (solo', (q, spelled', same')) = subst (λ (t : List ℕ). SpellsForm t other) (sym e) spelled_other in
+    let one : p ≡ q = spelled_once text p q spelled spelled' in
+    one_content form other (sym same ∙ (ap content_of one ∙ same'))
 
-one_reading : (form other : SmallForm) (input left left' : List ℕ) → IsSmall form → IsSmall other → reading PART_LIMIT input ≡ Whole (small_text form) left → reading PART_LIMIT input ≡ Whole (small_text other) left' → form ≡ other
-one_reading form other input left left' small small' e f =
-    let same : Whole (small_text form) left ≡ Whole (small_text other) left' = sym e ∙ f in
-    one_form form other small small' cc
+one_reading : (words : List (List ℕ)) (input : List ℕ) (form other : SoloForm) → Causes words input (Reduced form) → Causes words input (Reduced other) → form ≡ other
+one_reading words input form other (right, (part, left, read, spelled)) (right', (part', left', read', spelled')) =
+    one_form part part' form other (one_part input part left part' left' read read') spelled spelled'
 
 abbrev IsComplete : List (List ℕ) → Change → Change → Change → Status → List ℕ → List ℕ → Type 0
 IsComplete words source out err status input _ =
-    (form : SmallForm) (left : List ℕ) → words ≡ reduce_words → IsSmall form → input ≡ small_text form ++ left →
-    ¬ Failed source → ¬ Failed out → ¬ Failed err → ((status ≡ statuses.Done) × Put (reduction_text (summary_of form)) out) ⊎ (status ≡ statuses.Memory)
+    (form : SoloForm) → Causes words input (Reduced form) → ¬ Failed source → ¬ Failed out → ¬ Failed err →
+    ((status ≡ statuses.Done) × ((text : List ℕ) × IsReductionOf form text × Put text out)) ⊎ (status ≡ statuses.Memory)
 
 write_failed : (words : List (List ℕ)) (source out err : Change) → OutFails words source out err ⊎ ErrFails words source out err → ¬ Failed out → ¬ Failed err → ⊥
 write_failed words source out err (inl fails) out_well err_well = out_well fails.failed
 write_failed words source out err (inr fails) out_well err_well = err_well fails.failed
 
 pub complete_told : (words : List (List ℕ)) (source out err : Change) (status : Status) → Says words source out err status → WhereTold source.before source.after (IsComplete words source out err status)
-complete_told words source out err statuses.Done (form, due, put, nothing) =
-    told_then source.before source.after _ (IsComplete words source out err statuses.Done) (λ input after known other left right small all source_well out_well err_well.
-    let (right', small', (left', all', read')) = known.0 in
-    inl (refl, subst (λ (f : SmallForm). Put (reduction_text (summary_of f)) out) (one_reading form other input left' left small' small read' (small_read other input left small all)) put)) due.input
+complete_told words source out err statuses.Done (form, text, due, reduction, put, nothing) =
+    told_then source.before source.after _ (IsComplete words source out err statuses.Done) (λ input after known other cause source_well out_well err_well.
+    inl (refl, (text, subst (λ (f : SoloForm). IsReductionOf f text) (one_reading words input form other known.0 cause) reduction, put))) due.input
 complete_told words source out err statuses.Words (due, nothing, put) =
-    told_then source.before source.after _ (IsComplete words source out err statuses.Words) (λ input after known other left right small all source_well out_well err_well. absurd (known.0 right)) due.input
+    told_then source.before source.after _ (IsComplete words source out err statuses.Words) (λ input after known other cause source_well out_well err_well. absurd (known.0 cause.0)) due.input
 complete_told words source out err statuses.Refused (why, due, nothing, put) =
-    told_then source.before source.after _ (IsComplete words source out err statuses.Refused) (λ input after known other left right small all source_well out_well err_well.
-    absurd (not_refused words input other why (right, small, (left, all, small_read other input left small all)) known.0)) due.input
+    told_then source.before source.after _ (IsComplete words source out err statuses.Refused) (λ input after known other cause source_well out_well err_well.
+    absurd (not_refused words input other why cause known.0)) due.input
 complete_told words source out err statuses.ReadFault (trouble, nothing, put) =
-    told_then source.before source.after _ (IsComplete words source out err statuses.ReadFault) (λ input after known other left right small all source_well out_well err_well. absurd (source_well trouble.1)) trouble.2
+    told_then source.before source.after _ (IsComplete words source out err statuses.ReadFault) (λ input after known other cause source_well out_well err_well. absurd (source_well trouble.1)) trouble.2
 complete_told words source out err statuses.WriteFault said =
-    told_then source.before source.after _ (IsComplete words source out err statuses.WriteFault) (λ input after known other left right small all source_well out_well err_well.
+    told_then source.before source.after _ (IsComplete words source out err statuses.WriteFault) (λ input after known other cause source_well out_well err_well.
     absurd (write_failed words source out err said out_well err_well)) (write_told words source out err said)
 complete_told words source out err statuses.Memory (trouble, nothing, put) =
-    told_then source.before source.after _ (IsComplete words source out err statuses.Memory) (λ input after known other left right small all source_well out_well err_well. inr refl) trouble
+    told_then source.before source.after _ (IsComplete words source out err statuses.Memory) (λ input after known other cause source_well out_well err_well. inr refl) trouble

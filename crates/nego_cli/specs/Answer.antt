@@ -1,17 +1,28 @@
 -- What the top call answers: each status with its cause, what it put out, and what it left unread.
-use Rattle.std.specs.Prelude.{◌≡◌, ◌≢◌, ◌⊎◌, ℕ, List, [], ◌∷◌, ◌++◌, Option, codes}
+use Rattle.std.specs.Prelude.{◌≡◌, ◌≢◌, ◌⊎◌, ℕ, List, [], Option, Some}
 use Rattle.nego_io.specs.Outside.{Rose, WhereTold, Puts, PutsFront}
 use Rattle.nego_io.specs.Answer.{TakesWithin}
 use Rattle.nego_io.specs.Part.{Whole, PastLimit, Unended, behind, reading}
 use Rattle.nego_model.specs.Diagram.{IsDiagram}
-use Rattle.nego_model.specs.Summary.{Tells}
+use Rattle.nego_model.specs.Summary.{PlainSummary, Tells}
+use Rattle.nego_reader.specs.declared.parsed.Parsed.{Parsed}
+use Rattle.nego_reader.specs.Spelling.{Spells}
+use Rattle.nego_reader.specs.Reading.{diagram_fault}
+use Rattle.nego_reader.specs.Content.{content_of}
+use Rattle.nego_expr.specs.Use.{PlainUse}
+use Rattle.nego_expr.specs.Fresh.{fresh_work}
+use Rattle.nego_cli.specs.declared.command.Command.TheVariants as commands
 use Rattle.nego_cli.specs.declared.refusal.Refusal.{Refusal}
 use Rattle.nego_cli.specs.declared.refusal.Refusal.TheVariants as refusals
 use Rattle.nego_cli.specs.declared.status.Status.{Status}
 use Rattle.nego_cli.specs.declared.status.Status.TheVariants as statuses
 use Rattle.nego_cli.specs.declared.top.TheConstants.{PART_LIMIT}
-use Rattle.nego_cli.specs.Small.{SmallForm, IsSmall, small_text, diagram_of, summary_of}
-use Rattle.nego_cli.specs.Texts.{reduction_text, usage_line, refusal_line, read_fault_line, write_fault_line, memory_line}
+use Rattle.nego_cli.specs.Words.{command_of}
+use Rattle.nego_cli.specs.Solo.{SoloForm, IsSolo, diagram_of}
+use Rattle.nego_cli.specs.SoloContent.{content_of_form}
+use Rattle.nego_cli.specs.Order.{Reduces}
+use Rattle.nego_cli.specs.Certificate.{reduction_text}
+use Rattle.nego_cli.specs.Texts.{usage_line, refusal_line, read_fault_line, write_fault_line, memory_line}
 
 -- What is seen of an object of the outside before a call and after it: its bytes, where told, and its count of faults.
 pub record Change : Type 0 where
@@ -39,25 +50,47 @@ PutFront text object = PutsFront text object.before object.after
 abbrev pub Tried : List ℕ → Change → Type 0
 Tried text object = (Failed object × PutFront text object) ⊎ Put text object
 
--- the words that are a command today
-abbrev pub reduce_words : List (List ℕ)
-reduce_words = codes "reduce" ∷ []
+-- The words are the command `reduce`, which is the one that is built today.
+abbrev pub IsReduce : List (List ℕ) → Type 0
+IsReduce words = command_of words ≡ Some commands.Reduce
+
+-- The text spells a diagram of the form, but for places, blanks and comments.
+abbrev pub SpellsForm : List ℕ → SoloForm → Type 0
+SpellsForm text form = IsSolo form × ((p : Parsed) × Spells text p × (content_of p ≡ content_of_form form))
+
+-- The text spells a diagram, and it is of no form that is taken yet.
+abbrev pub SpellsNoForm : List ℕ → Type 0
+SpellsNoForm text = (p : Parsed) × Spells text p × ((form : SoloForm) → IsSolo form → content_of p ≢ content_of_form form)
 
 -- what words and input come to
 pub data Reply : Type 0 where
-  Reduced : SmallForm → Reply
+  Reduced : SoloForm → Reply
   BadWords : Reply
   Refuses : Refusal → Reply
 
+-- The text has the cause of the refusal, which is one of a whole part.
+abbrev pub IsRefused : List ℕ → Refusal → Type 0
+IsRefused text (refusals.Off fault) = (diagram_fault text ≡ Some fault) × ((p : Parsed) → ¬ Spells text p)
+IsRefused text refusals.NotYet = SpellsNoForm text
+IsRefused text refusals.TooLong = ⊥
+IsRefused text (refusals.NoEnd line) = ⊥
+
+-- The input begins with a part that has P.
+abbrev pub BeginsWithPart : (List ℕ → Type 0) → List ℕ → Type 0
+BeginsWithPart P input = (part left : List ℕ) × (reading PART_LIMIT input ≡ Whole part left) × P part
+
+-- The input is refused, and why.
+abbrev pub InputRefused : List ℕ → Refusal → Type 0
+InputRefused input refusals.TooLong = reading PART_LIMIT input ≡ PastLimit
+InputRefused input (refusals.NoEnd line) = reading PART_LIMIT input ≡ Unended line
+InputRefused input (refusals.Off fault) = BeginsWithPart (λ part. IsRefused part (refusals.Off fault)) input
+InputRefused input refusals.NotYet = BeginsWithPart (λ part. IsRefused part refusals.NotYet) input
+
 -- The words and the input are the cause of the reply.
 abbrev pub Causes : List (List ℕ) → List ℕ → Reply → Type 0
-Causes words input BadWords = words ≢ reduce_words
-Causes words input (Reduced form) =
-    (words ≡ reduce_words) × IsSmall form × ((left : List ℕ) × (input ≡ small_text form ++ left) × (reading PART_LIMIT input ≡ Whole (small_text form) left))
-Causes words input (Refuses refusals.TooLong) = (words ≡ reduce_words) × (reading PART_LIMIT input ≡ PastLimit)
-Causes words input (Refuses (refusals.NoEnd line)) = (words ≡ reduce_words) × (reading PART_LIMIT input ≡ Unended line)
-Causes words input (Refuses refusals.NotYet) =
-    (words ≡ reduce_words) × ((part left : List ℕ) × (reading PART_LIMIT input ≡ Whole part left) × ((form : SmallForm) → IsSmall form → part ≢ small_text form))
+Causes words input BadWords = ¬ IsReduce words
+Causes words input (Reduced form) = IsReduce words × BeginsWithPart (λ part. SpellsForm part form) input
+Causes words input (Refuses why) = IsReduce words × InputRefused input why
 
 -- what a reply leaves of an input
 abbrev pub left_by : Reply → List ℕ → List ℕ
@@ -67,9 +100,18 @@ left_by (Refuses why) input = behind PART_LIMIT input
 
 -- What a reply says of the words and, where it is a reduction, of the diagram: whatever the source tells.
 abbrev pub Holds : List (List ℕ) → Reply → Type 0
-Holds words BadWords = words ≢ reduce_words
-Holds words (Reduced form) = (words ≡ reduce_words) × IsSmall form × IsDiagram (diagram_of form) × Tells (summary_of form) (diagram_of form)
-Holds words (Refuses why) = words ≡ reduce_words
+Holds words BadWords = ¬ IsReduce words
+Holds words (Reduced form) = IsReduce words × IsSolo form × IsDiagram (diagram_of form)
+Holds words (Refuses why) = IsReduce words
+
+-- The text is the reduction of the form: the certificate of just those uses that lead from the form's fresh work to a
+-- work that is done, each the next one in its turn; the verdict; and the summary of what is left, which tells the diagram.
+pub record IsReductionOf (form : SoloForm) (text : List ℕ) : Type 0 where
+  pub uses : List PlainUse
+  pub summary : PlainSummary
+  pub reduces : Reduces (fresh_work (diagram_of form)) uses summary
+  pub tells : Tells summary (diagram_of form)
+  pub printed : text ≡ reduction_text uses summary
 
 -- The reply holds, and where the source tells, the words and the input are its cause and it leaves of the input what
 -- it should.
@@ -88,7 +130,7 @@ pub data Trouble : Type 0 where
 
 -- The trouble has its cause.
 abbrev pub IsTrouble : List (List ℕ) → Change → Trouble → Type 0
-IsTrouble words source ReadFails = (words ≡ reduce_words) × Failed source × TookWithin source
+IsTrouble words source ReadFails = IsReduce words × Failed source × TookWithin source
 IsTrouble words source MemoryFails = TookWithin source
 
 abbrev pub trouble_line : Trouble → List ℕ
@@ -105,10 +147,12 @@ IsReason words source line =
 -- Writing the text failed: a front of it is on `out`, and the line of the write fault is on `err`, or a front of it where
 -- that failed too.
 pub record OutFails (words : List (List ℕ)) (source out err : Change) : Type 0 where
-  pub form : SmallForm
+  pub form : SoloForm
+  pub text : List ℕ
   pub due : IsDue words source (Reduced form)
+  pub reduction : IsReductionOf form text
   pub failed : Failed out
-  pub front : PutFront (reduction_text (summary_of form)) out
+  pub front : PutFront text out
   pub told : Tried write_fault_line err
 
 -- Writing a line failed: a front of it is on `err`, and nothing on `out`.
@@ -125,7 +169,7 @@ ShowsTrouble words source out err trouble = IsTrouble words source trouble × Pu
 
 -- What each status says.
 abbrev pub Says : List (List ℕ) → Change → Change → Change → Status → Type 0
-Says words source out err statuses.Done = (form : SmallForm) × IsDue words source (Reduced form) × Put (reduction_text (summary_of form)) out × Put [] err
+Says words source out err statuses.Done = (form : SoloForm) × (text : List ℕ) × IsDue words source (Reduced form) × IsReductionOf form text × Put text out × Put [] err
 Says words source out err statuses.Words = IsDue words source BadWords × Put [] out × Put usage_line err
 Says words source out err statuses.Refused = (why : Refusal) × IsDue words source (Refuses why) × Put [] out × Put (refusal_line why) err
 Says words source out err statuses.ReadFault = ShowsTrouble words source out err ReadFails

@@ -1,18 +1,22 @@
 -- What passes between finding an answer and putting it out.
-use Rattle.std.specs.Prelude.{◌≡◌, ◌≢◌, ◌⊎◌, ℕ, List, []}
+use Rattle.std.specs.Prelude.{◌≡◌, ◌⊎◌, ℕ, List, []}
+use Rattle.nego_base.specs.declared.fault.ReadFaults.{ReadFaults}
+use Rattle.nego_base.specs.declared.fault.ReadFaults.TheVariants as read_faults
 use Rattle.nego_cli.specs.declared.answer.Answer.{Answer}
 use Rattle.nego_cli.specs.declared.answer.Answer.TheVariants as answers
+use Rattle.nego_cli.specs.declared.reduction.Unreduced.{Unreduced}
+use Rattle.nego_cli.specs.declared.reduction.Unreduced.TheVariants as unreduced
 use Rattle.nego_cli.specs.declared.refusal.Refusal.{Refusal}
 use Rattle.nego_cli.specs.declared.refusal.Refusal.TheVariants as refusals
 use Rattle.nego_cli.specs.declared.status.Status.{Status}
 use Rattle.nego_cli.specs.declared.status.Status.TheVariants as statuses
-use Rattle.nego_cli.specs.Small.{SmallForm, IsSmall, small_text, summary_of}
-use Rattle.nego_cli.specs.Texts.{reduction_text, usage_line, refusal_line, read_fault_line, write_fault_line, memory_line}
-use Rattle.nego_cli.specs.Answer.{Change, Failed, Put, PutFront, Tried, Reduced, BadWords, Refuses, ReadFails, MemoryFails, IsDue, IsTrouble}
+use Rattle.nego_cli.specs.Solo.{SoloForm}
+use Rattle.nego_cli.specs.Texts.{usage_line, refusal_line, read_fault_line, write_fault_line, memory_line}
+use Rattle.nego_cli.specs.Answer.{Change, Failed, Put, PutFront, Tried, Reduced, BadWords, Refuses, ReadFails, MemoryFails, SpellsForm, IsRefused, IsReductionOf, IsDue, IsTrouble}
 
 -- The answer has its cause in the words and what was taken of the source.
 abbrev pub IsFound : List (List ℕ) → Change → Answer → Type 0
-IsFound words source (answers.Reduced text) = (form : SmallForm) × (text ≡ reduction_text (summary_of form)) × IsDue words source (Reduced form)
+IsFound words source (answers.Reduced text) = (form : SoloForm) × IsReductionOf form text × IsDue words source (Reduced form)
 IsFound words source answers.BadWords = IsDue words source BadWords
 IsFound words source (answers.Refused line) = (why : Refusal) × (line ≡ refusal_line why) × IsDue words source (Refuses why)
 IsFound words source answers.ReadFault = IsTrouble words source ReadFails
@@ -26,14 +30,24 @@ IsRefusal why (answers.Reduced text) = ⊥
 IsRefusal why answers.BadWords = ⊥
 IsRefusal why answers.ReadFault = ⊥
 
--- The answer is the text of the form of which the part is the printed form; where it is of none, a refusal; or want
--- of memory.
+-- The answer is the reduction of the form that the part spells; or the line of the refusal, of which the part has the
+-- cause; or want of memory.
 abbrev pub IsReduction : List ℕ → Answer → Type 0
-IsReduction part (answers.Reduced text) = (form : SmallForm) × IsSmall form × (part ≡ small_text form) × (text ≡ reduction_text (summary_of form))
-IsReduction part (answers.Refused line) = ((form : SmallForm) → IsSmall form → part ≢ small_text form) × (line ≡ refusal_line refusals.NotYet)
+IsReduction part (answers.Reduced text) = (form : SoloForm) × SpellsForm part form × IsReductionOf form text
+IsReduction part (answers.Refused line) = (why : Refusal) × IsRefused part why × (line ≡ refusal_line why)
 IsReduction part answers.Memory = Unit {0}
 IsReduction part answers.BadWords = ⊥
 IsReduction part answers.ReadFault = ⊥
+
+-- why a text that isn't read has no reduction
+abbrev pub unread_as : ReadFaults → Unreduced
+unread_as (read_faults.Off fault) = unreduced.Refused (refusals.Off fault)
+unread_as read_faults.Memory = unreduced.Memory
+
+-- The text has no reduction: it is refused, and has the cause of that, or memory was wanted.
+abbrev pub IsUnreduced : List ℕ → Unreduced → Type 0
+IsUnreduced text (unreduced.Refused why) = IsRefused text why
+IsUnreduced text unreduced.Memory = Unit {0}
 
 -- What is on `out` and `err` after a text was put on `out`, by the status.
 abbrev pub TextPut : List ℕ → Change → Change → Status → Type 0

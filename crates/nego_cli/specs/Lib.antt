@@ -1,7 +1,14 @@
 pub mod Answer
-pub mod Form
+pub mod Certificate
+pub mod CommandLine
 pub mod Handed
-pub mod Reading
-pub mod Small
+pub mod Narrow
+pub mod NarrowWork
+pub mod Order
+pub mod Solo
+pub mod SoloContent
+pub mod SoloReading
 pub mod Status
 pub mod Texts
+pub mod Uses
+pub mod Words

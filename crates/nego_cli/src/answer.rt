@@ -1,11 +1,12 @@
 //! Finds the answer to words and input, as a text or a line that is still to be written.
 
-ghost use Rattle.std.specs.Prelude.{◌≡◌, ◌≢◌, ◌↔◌, ◌≤◌, ◌∷◌, IsTrue, codes};
-ghost use Rattle.nego_cli.specs.Answer.{change, reduce_words};
+ghost use Rattle.std.specs.Prelude.{◌≡◌, ◌↔◌, ◌≤◌, ◌<◌, ◌-◌, ◌^◌, length, IsTrue, IfOk};
+ghost use Rattle.nego_cli.specs.Answer.{change, IsReduce};
 ghost use Rattle.nego_cli.specs.Handed.{IsFound, IsRefusal, IsReduction};
 
+use crate::reduction::{Unreduced, reduction_of};
 use crate::top::PART_LIMIT;
-use crate::{Refusal, small, text};
+use crate::{Command, Refusal, WordsAnswer, text, words_of};
 use nego_base::{Memory, Text};
 use nego_io::{ReadAnswer, Source, read_part};
 use std::alloc::Global;
@@ -25,20 +26,21 @@ pub enum Answer {
     Memory,
 }
 
-/// Whether the word is the command `reduce`.
-fn names_reduce(word: &Text) -> bool
-    ensures { IsTrue result ↔ (word.now ≡ codes "reduce") }
+/// Whether the command is `reduce`.
+fn is_reduce(command: &Command) -> bool
+    ensures { IsTrue result ↔ (command.now ≡ Command.Reduce) }
 {
-    word.as_slice() == b"reduce".as_slice()
+    matches!(command, Command::Reduce)
 }
 
-/// Whether the words are the command `reduce`.
-fn are_reduce(words: &[Text]) -> bool
-    ensures { IsTrue result ↔ (words.now ≡ reduce_words) }
+/// Whether the words are the command `reduce`, which is the one that is built.
+fn are_reduce(alloc: Global, words: &[Text]) -> Result<bool, Memory>
+    ensures { IfOk result (λ are. IsTrue are ↔ IsReduce words.now) }
 {
-    match words {
-        [word] => names_reduce(word),
-        _ => false,
+    match words_of(alloc, words) {
+        Ok(command) => Ok(is_reduce(&command)),
+        Err(WordsAnswer::Words) => Ok(false),
+        Err(WordsAnswer::Memory) => Err(Memory),
     }
 }
 
@@ -54,26 +56,35 @@ fn refuse(alloc: Global, why: Refusal) -> Answer
 
 /// The answer to a part that was read.
 fn reduce(alloc: Global, part: &[u8]) -> Answer
+    requires { length part.now < 2 ^ 32 - 1 }
     ensures { IsReduction part.now result }
 {
-    let Some(form) = small::read(part) else {
-        return refuse(alloc, Refusal::NotYet);
-    };
-    match text::reduction(alloc, &form) {
+    match reduction_of(alloc, part) {
         Ok(text) => Answer::Reduced(text),
-        Err(Memory) => Answer::Memory,
+        Err(Unreduced::Refused(why)) => refuse(alloc, why),
+        Err(Unreduced::Memory) => Answer::Memory,
     }
 }
 
 /// Finds the answer; takes a part of the source where the words are a command.
 pub fn find_answer<S: Source>(alloc: Global, words: &[Text], source: &mut S) -> Answer
     ensures found { IsFound words.now (change S.left S.faults source.old source.new) result }
-    ensures untouched { words.now ≢ reduce_words → source.new ≡ source.old }
+    ensures untouched { ¬ IsReduce words.now → source.new ≡ source.old }
     ensures later { S.faults source.old ≤ S.faults source.new }
 {
-    if !are_reduce(words) {
-        return Answer::BadWords;
+    match are_reduce(alloc, words) {
+        Ok(true) => reduce_input(alloc, words, source),
+        Ok(false) => Answer::BadWords,
+        Err(Memory) => Answer::Memory,
     }
+}
+
+/// The answer to the part that the input begins with, where the words are right.
+fn reduce_input<S: Source>(alloc: Global, words: &[Text], source: &mut S) -> Answer
+    requires { IsReduce words.now }
+    ensures found { IsFound words.now (change S.left S.faults source.old source.new) result }
+    ensures later { S.faults source.old ≤ S.faults source.new }
+{
     match read_part(alloc, source, PART_LIMIT) {
         Ok(part) => reduce(alloc, &part.bytes),
         Err(ReadAnswer::TooLong) => refuse(alloc, Refusal::TooLong),

@@ -2,15 +2,27 @@
 #![tactic(auto)]
 
 mod answer;
+mod certificate;
+mod command;
 mod deliver;
+mod form;
+mod order;
+mod reduction;
 mod refusal;
-mod small;
+mod splitting;
 mod status;
 #[cfg(test)]
 mod tests;
 mod text;
 mod top;
+mod word_laws;
+mod words;
+#[cfg(test)]
+mod words_tests;
 
+pub use command::{Command, WordsAnswer};
 pub use refusal::Refusal;
 pub use status::Status;
 pub use top::nego;
+pub use word_laws::number_words_are_decimals;
+pub use words::words_of;

@@ -49,7 +49,7 @@ const BAD_WORDS: Row = Row {
     ..REDUCED
 };
 
-static ROWS: [Row; 13] = [
+static ROWS: [Row; 33] = [
     REDUCED,
     Row {
         input: b"nego 1\nagent a 2\natom only a\nout set\ncase : a:=1\nfirst only\nlast only\nend\nend\nmore",
@@ -57,7 +57,85 @@ static ROWS: [Row; 13] = [
         ..REDUCED
     },
     Row {
-        input: b"nego 1\n# x\nagent a 2\natom only a\nout set\ncase : a:=1\nfirst only\nlast only\nend\n",
+        input: b"nego 1\n# x\n\nagent a 2\natom only a\n out \t set\ncase  : a:=1\nfirst only\nlast only\nend\n",
+        ..REDUCED
+    },
+    Row {
+        input: b"nego 1\r\nagent a 2\natom only a\nout set\ncase : a:=1\nfirst only\nlast only\nend\n",
+        ..REDUCED
+    },
+    Row {
+        input: b"nego 1\nagent a 2\natom only a\nout set\ncase : a:=1\nout keep\ncase :\nfirst only\nlast only\nend\n",
+        out: b"certificate 1\nend\nsound uses 0\nsummary 1\nnode 0 base 0\nnode 1 base 1\nfinal set 0\nfinal keep 1\nend\n",
+        ..REDUCED
+    },
+    Row {
+        input: b"nego 1\nagent a 3\natom start a\nout zero\ncase : a:=0\nnext stop a\nout keep\ncase :\nnext stop a\natom stop a\nout ok\ncase :\nfirst start\nlast stop\nend\n",
+        out: b"certificate 1\nmerge 0 1\nclose\nend\nsound uses 2\nsummary 1\nnode 0 base 0\nnode 1 base 1\nnode 2 base 2\nnode 3 join 0 1\nnode 4 then 3 2\nfinal ok 4\nend\n",
+        ..REDUCED
+    },
+    Row {
+        input: b"nego 1\nagent a 2\natom start a\nout go\ncase : a:=1\nnext stop a\natom stop a\nout accept\ncase :\nout reject\ncase : a:=0\nfirst start\nlast stop\nend\n",
+        out: b"certificate 1\nclose\nend\nsound uses 1\nsummary 1\nnode 0 base 0\nnode 1 base 1\nnode 2 base 2\nnode 3 then 0 1\nnode 4 then 0 2\nfinal accept 3\nfinal reject 4\nend\n",
+        ..REDUCED
+    },
+    Row {
+        input: b"nego 3\nagent a 2\natom only a\nout set\ncase : a:=1\nfirst only\nlast only\nend\n",
+        err: b"refused diagram line 1 column 6 Version\n",
+        ..REFUSED
+    },
+    Row {
+        input: b"nego 1\nagent a 01\natom only a\nout set\ncase : a:=1\nfirst only\nlast only\nend\n",
+        err: b"refused diagram line 2 column 9 Number\n",
+        ..REFUSED
+    },
+    Row {
+        input: b"nego 1\nagent A 2\natom only a\nout set\ncase : a:=1\nfirst only\nlast only\nend\n",
+        err: b"refused diagram line 2 column 7 Name\n",
+        ..REFUSED
+    },
+    Row {
+        input: b"nego 1\nagent a 2\natom only a\nout set\ncase a=0 a:=1\nfirst only\nlast only\nend\n",
+        err: b"refused diagram line 5 column 1 Case\n",
+        ..REFUSED
+    },
+    Row {
+        input: b"nego 1\nagent a 2\nfoo\nout set\ncase : a:=1\nfirst only\nlast only\nend\n",
+        err: b"refused diagram line 3 column 1 Word\n",
+        ..REFUSED
+    },
+    Row {
+        input: b"nego 1\nagent a 2\nagent b 1\natom only a\nout set\ncase : a:=1\nfirst only\nlast only\nend\n",
+        err: b"refused diagram not yet\n",
+        ..REFUSED
+    },
+    Row {
+        input: b"nego 1\nagent a 65\natom only a\nout set\ncase : a:=1\nfirst only\nlast only\nend\n",
+        err: b"refused diagram not yet\n",
+        ..REFUSED
+    },
+    Row {
+        input: b"nego 1\nagent a 2\natom only a\nout set\ncase : a:=2\nfirst only\nlast only\nend\n",
+        err: b"refused diagram not yet\n",
+        ..REFUSED
+    },
+    Row {
+        input: b"nego 1\nagent a 2\natom only a\nout set\ncase : a:=*\nfirst only\nlast only\nend\n",
+        err: b"refused diagram not yet\n",
+        ..REFUSED
+    },
+    Row {
+        input: b"nego 1\nagent a 2\natom only a\nout set\ncase a=0 : a:=1\nfirst only\nlast only\nend\n",
+        err: b"refused diagram not yet\n",
+        ..REFUSED
+    },
+    Row {
+        input: b"nego 1\nagent a 2\natom only a\nout set\ncase : a:=1\nfirst other\nlast only\nend\n",
+        err: b"refused diagram not yet\n",
+        ..REFUSED
+    },
+    Row {
+        input: b"nego 1\nagent a 3\natom start a\nout zero\ncase : a:=0\nnext stop a\nout keep\ncase :\nnext stop a\natom stop a\nout ok\ncase :\nfirst stop\nlast start\nend\n",
         err: b"refused diagram not yet\n",
         ..REFUSED
     },
@@ -75,7 +153,7 @@ static ROWS: [Row; 13] = [
     Row {
         hashes: 262_140,
         input: b"\nend",
-        err: b"refused diagram not yet\n",
+        err: b"refused diagram line 1 column 1025 Line\n",
         ..REFUSED
     },
     Row {
@@ -115,6 +193,22 @@ static ROWS: [Row; 13] = [
         words: &[b"help"],
         ..BAD_WORDS
     },
+    Row {
+        words: &[b"--help"],
+        ..BAD_WORDS
+    },
+    Row {
+        words: &[b"ask"],
+        ..BAD_WORDS
+    },
+    Row {
+        words: &[b"ask", b"01"],
+        ..BAD_WORDS
+    },
+    Row {
+        words: &[b"make", b"65"],
+        ..BAD_WORDS
+    },
 ];
 
 fn words_of(alloc: Global, words: &[&[u8]]) -> Result<Seq<Text>, Memory> {
@@ -142,11 +236,11 @@ fn calls_over_memory(rt: HostRuntime) -> Result<(), Fail> {
         let mut err = MemSink::new(alloc, Seq::new(alloc))?;
         let status = nego(alloc, &words, &mut source, &mut out, &mut err);
         assert_eq!(rt; status.number(), row.status, "row {i}");
-        assert_eq!(rt; out.bytes(), row.out, "row {i}");
-        assert_eq!(rt; err.bytes(), row.err, "row {i}");
+        assert!(rt; out.bytes() == row.out, "row {i}");
+        assert!(rt; err.bytes() == row.err, "row {i}");
         let mut left = [0u8; 128];
         let n = source.take(&mut left)?;
-        assert_eq!(rt; &left[..n], row.left, "row {i}");
+        assert!(rt; &left[..n] == row.left, "row {i}");
     }
     Ok(())
 }

@@ -1,28 +1,11 @@
-//! The texts that are built before they are written.
+//! The lines of refusals, which are built before they are written.
 
 ghost use Rattle.std.specs.Prelude.{◌≡◌, IfOk};
-ghost use Rattle.nego_cli.specs.Form.{plain};
-ghost use Rattle.nego_cli.specs.Small.{summary_of};
-ghost use Rattle.nego_cli.specs.Texts.{reduction_text, refusal_line};
+ghost use Rattle.nego_cli.specs.Texts.{kind_name, refusal_line};
 
 use crate::Refusal;
-use crate::small::Form;
-use nego_base::{Memory, Text};
+use nego_base::{Fault, FaultKind, Memory, Text};
 use std::alloc::Global;
-
-/// The text of the reduction of the form: no rule is used, and the one outcome is the only node.
-#[tactic(auto, using(crate::proofs::Printed::decimal_zero))]
-pub fn reduction(alloc: Global, form: &Form<'_>) -> Result<Text, Memory>
-    ensures { IfOk result (λ text. text ≡ reduction_text (summary_of (plain form.now))) }
-{
-    let mut text = Text::copy(
-        alloc,
-        b"certificate 1\nend\nsound uses 0\nsummary 1\nnode 0 base 0\nfinal ",
-    )?;
-    text.extend_from_slice(form.outcome)?;
-    text.extend_from_slice(b" 0\nend\n")?;
-    Ok(text)
-}
 
 /// The line of the refusal.
 pub fn refusal(alloc: Global, why: Refusal) -> Result<Text, Memory>
@@ -30,8 +13,9 @@ pub fn refusal(alloc: Global, why: Refusal) -> Result<Text, Memory>
 {
     match why {
         Refusal::TooLong => Text::copy(alloc, b"refused diagram TooLong\n"),
-        Refusal::NotYet => Text::copy(alloc, b"refused diagram not yet\n"),
         Refusal::NoEnd { line } => no_end(alloc, line),
+        Refusal::Off(fault) => off(alloc, fault),
+        Refusal::NotYet => Text::copy(alloc, b"refused diagram not yet\n"),
     }
 }
 
@@ -44,4 +28,38 @@ fn no_end(alloc: Global, line: u32) -> Result<Text, Memory>
     text.extend_from_slice(number.as_bytes())?;
     text.extend_from_slice(b" NoEnd\n")?;
     Ok(text)
+}
+
+/// The line of the refusal of a text that is off its grammar.
+fn off(alloc: Global, fault: Fault) -> Result<Text, Memory>
+    ensures { IfOk result (λ text. text ≡ refusal_line (Refusal.Off fault)) }
+{
+    let line = fault.line.to_string(alloc)?;
+    let column = fault.column.to_string(alloc)?;
+    let mut text = Text::copy(alloc, b"refused diagram line ")?;
+    text.extend_from_slice(line.as_bytes())?;
+    text.extend_from_slice(b" column ")?;
+    text.extend_from_slice(column.as_bytes())?;
+    text.extend_from_slice(b" ")?;
+    text.extend_from_slice(kind_name(fault.kind))?;
+    text.extend_from_slice(b"\n")?;
+    Ok(text)
+}
+
+/// The name of the kind.
+fn kind_name(kind: FaultKind) -> &'static [u8]
+    ensures { result.now ≡ kind_name kind }
+{
+    match kind {
+        FaultKind::Line => b"Line",
+        FaultKind::Byte => b"Byte",
+        FaultKind::Version => b"Version",
+        FaultKind::Word => b"Word",
+        FaultKind::Count => b"Count",
+        FaultKind::Name => b"Name",
+        FaultKind::Number => b"Number",
+        FaultKind::Case => b"Case",
+        FaultKind::Agent => b"Agent",
+        FaultKind::Many => b"Many",
+    }
 }

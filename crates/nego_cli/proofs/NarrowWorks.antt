@@ -1,0 +1,216 @@
+-- Narrow works: the next use is there until one atom is left, each use leaves a narrow work, and none makes too many nodes.
+use Rattle.std.proofs.Common.{◌≡◌, ◌≢◌, ◌⊎◌, inl, inr, ⊎_elim, ℕ, suc, ◌+◌, ◌<◌, ◌≤◌, Bool, true, false, not, ◌==◌, ◌&&◌, cond, List, [], ◌∷◌, length, map, slice_index_or, Option, Some, None, IsTrue, refl, sym, subst, ap, ◌∙◌, arith, eq-eqb, ne_eqb, eqb-true}
+use Rattle.std.specs.Prelude.{nat_lt, filter}
+use Rattle.std.specs.List.{All, list_all, range_with_len}
+use Rattle.std.specs.Option.{option_map_or}
+use Rattle.std.proofs.lemmas.Bool.{and_parts, and_from, cond-false, cases_eq, eqb-false, false≢true, true≢false, not-true, not_from_false, ltb-true, lt-ltb}
+use Rattle.std.proofs.lemmas.Option.{none-some}
+use Rattle.std.proofs.lemmas.List.{length-map}
+use Rattle.std.proofs.lemmas.List.Elements.{All-head, All-tail, All-filter, filter_passes}
+use Rattle.nego_base.specs.Members.{is_in, RisesFrom}
+use Rattle.nego_base.proofs.Members.{is_in_none, is_in_single, is_in-range_zero, all_from}
+use Rattle.nego_expr.specs.Work.{WorkOutcome, PlainWork, outcome_among, outcome_at, work_parties, sent_to, IsWork}
+use Rattle.nego_expr.specs.Use.{Merge, Iterate, Shortcut, Close, same_target, merges, can_merge, merged, merged_of, without_outcome, outcomes_at, one_sends_all, can_close, closed, closed_by, closed_of}
+use Rattle.nego_expr.proofs.Alive.{each_found}
+use Rattle.nego_expr.proofs.WorkEdits.{numbers_of, All-found, found_cases, rises-passing}
+use Rattle.nego_cli.specs.NarrowWork.{IsNarrow}
+use Rattle.nego_cli.specs.Order.{HasNoMerge, HasNoNextUse, IsDone}
+
+-- ---- lists
+
+-- members of a list of one are the same
+same_of_one : (xs : List ℕ) (a b : ℕ) → length xs ≡ 1 → IsTrue (is_in a xs) → IsTrue (is_in b xs) → a ≡ b
+same_of_one [] a b l h k = absurd (is_in_none a [] refl h)
+same_of_one (x ∷ []) a b l h k = is_in_single a x h ∙ sym (is_in_single b x k)
+same_of_one (x ∷ y ∷ ys) a b l h k = absurd (let no_more : ⊥ = omega (arith, l) in no_more)
+
+-- a list of which two members differ has two items
+two_members : (xs : List ℕ) (a b : ℕ) → a ≢ b → IsTrue (is_in a xs) → IsTrue (is_in b xs) → 2 ≤ length xs
+two_members [] a b other h k = absurd (is_in_none a [] refl h)
+two_members (x ∷ []) a b other h k = absurd (other (is_in_single a x h ∙ sym (is_in_single b x k)))
+two_members (x ∷ y ∷ ys) a b other h k = omega arith
+
+-- no more pass a test than there are
+pub passing_at_most : {A : Type 0} (test : A → Bool) (xs : List A) → length (filter test xs) ≤ length xs
+passing_at_most test [] = omega arith
+passing_at_most test (x ∷ xs) = go (test x) (passing_at_most test xs)
+  where
+    go : (b : Bool) → length (filter test xs) ≤ length xs → length (cond b (x ∷ filter test xs) (filter test xs)) ≤ suc (length xs)
+    go true h = omega (arith, h)
+    go false h = omega (arith, h)
+
+-- without an outcome that is found there are fewer
+pub fewer_without : (outcomes : List WorkOutcome) (o : ℕ) (x : WorkOutcome) → outcome_among outcomes o ≡ Some x → length (without_outcome o outcomes) + 1 ≤ length outcomes
+fewer_without [] o x h = absurd (none-some x h)
+fewer_without (y ∷ ys) o x h = ⊎_elim (λ k. here k.0) (λ k. later (not (y.number == o)) (fewer_without ys o x k.1)) (found_cases y ys o x h)
+  where
+    at_most : length (without_outcome o ys) ≤ length ys
+    at_most = passing_at_most (λ z. not (z.number == o)) ys
+
+    here : y.number ≡ o → length (without_outcome o (y ∷ ys)) + 1 ≤ suc (length ys)
+    here k = rw (cond-false (not (y.number == o)) (y ∷ without_outcome o ys) (without_outcome o ys) (ap not (eq-eqb y.number o k))) (omega (arith, at_most))
+
+    later : (b : Bool) → length (without_outcome o ys) + 1 ≤ length ys → length (cond b (y ∷ without_outcome o ys) (without_outcome o ys)) + 1 ≤ suc (length ys)
+    later true m = omega (arith, m)
+    later false m = omega (arith, m)
+
+-- ---- what the guards say
+
+-- Two outcomes that are found and merge: they are of one atom, which isn't the last.
+pub record FoundTwo (work : PlainWork) (o1 o2 : ℕ) (x y : WorkOutcome) : Type 0 where
+  pub first : outcome_at work o1 ≡ Some x
+  pub second : outcome_at work o2 ≡ Some y
+  pub not_last : x.atom ≢ work.last
+
+pub found_two : (work : PlainWork) (o1 o2 : ℕ) → IsTrue (can_merge work o1 o2) → (x : WorkOutcome) × (y : WorkOutcome) × FoundTwo work o1 o2 x y
+found_two work o1 o2 h = go (outcome_at work o1) (outcome_at work o2) refl refl (and_parts (nat_lt o1 o2) (merges work (outcome_at work o1) (outcome_at work o2)) h).1
+  where
+    go : (f g : Option WorkOutcome) → outcome_at work o1 ≡ f → outcome_at work o2 ≡ g → IsTrue (merges work f g) → (x : WorkOutcome) × (y : WorkOutcome) × FoundTwo work o1 o2 x y
+    go None g e k m = absurd (false≢true m)
+    go (Some x) None e k m = absurd (false≢true m)
+    go (Some x) (Some y) e k m =
+        let alike : Bool = list_all (λ a. same_target (sent_to x a) (sent_to y a)) (work_parties work x.atom) in
+        let p = and_parts (x.atom == y.atom) (not (x.atom == work.last) && alike) m in
+        let q = and_parts (not (x.atom == work.last)) alike p.1 in
+        (x, y, record { first = e; second = k; not_last = eqb-false x.atom work.last (not-true (x.atom == work.last) q.0) })
+
+-- what the guard of a closing says
+pub record MayClose (work : PlainWork) : Type 0 where
+  pub two : length work.atoms ≡ 2
+  pub apart : work.first ≢ work.last
+  pub only : IsTrue (one_sends_all work.agents work.last (outcomes_at work work.first))
+
+pub may_close : (work : PlainWork) → IsTrue (can_close work) → MayClose work
+may_close work h =
+    let only : Bool = one_sends_all work.agents work.last (outcomes_at work work.first) in
+    let p = and_parts (length work.atoms == 2) (not (work.first == work.last) && only) h in
+    let q = and_parts (not (work.first == work.last)) only p.1 in
+    record { two = eqb-true (length work.atoms) 2 p.0; apart = eqb-false work.first work.last (not-true (work.first == work.last) q.0); only = q.1 }
+
+pub merged_is : (work : PlainWork) (o1 o2 : ℕ) (x y : WorkOutcome) → FoundTwo work o1 o2 x y → merged work o1 o2 ≡ merged_of work x y
+merged_is work o1 o2 x y two =
+    ap (λ f. option_map_or (λ v. option_map_or (λ w. merged_of work v w) (outcome_at work o2) work) f work) two.first
+    ∙ ap (λ g. option_map_or (λ w. merged_of work x w) g work) two.second
+
+pub closed_is : (work : PlainWork) → IsTrue (can_close work) → (x : WorkOutcome) × (closed work ≡ closed_of work x)
+closed_is work h = go (outcomes_at work work.first) (may_close work h).only
+  where
+    go : (xs : List WorkOutcome) → IsTrue (one_sends_all work.agents work.last xs) → (x : WorkOutcome) × (closed_by work xs ≡ closed_of work x)
+    go [] k = absurd (false≢true k)
+    go (x ∷ xs) k = (x, refl)
+
+-- ---- one atom
+
+-- where one atom is left, it is that of each alive outcome
+pub atom_is_last : (work : PlainWork) (o : ℕ) (x : WorkOutcome) → IsWork work → length work.atoms ≡ 1 → outcome_at work o ≡ Some x → x.atom ≡ work.last
+atom_is_last work o x ok one h =
+    same_of_one (map (λ atom. atom.number) work.atoms) x.atom work.last (length-map work.atoms (λ atom. atom.number) ∙ one)
+    (All-found (λ z. IsTrue (is_in z.atom (map (λ atom. atom.number) work.atoms))) work.outcomes o x ok.own_atom h) ok.form.last_there
+
+-- where one atom is left, no use is the next one
+pub one_atom_no_use : (work : PlainWork) → IsWork work → length work.atoms ≡ 1 → HasNoNextUse work
+one_atom_no_use work ok one (Merge o1 o2) h = let t = found_two work o1 o2 h.allowed in t.2.not_last (atom_is_last work o1 t.0 ok one t.2.first)
+one_atom_no_use work ok one (Iterate o) h = h
+one_atom_no_use work ok one (Shortcut o n) h = h
+one_atom_no_use work ok one Close h = let k : length work.atoms ≡ 2 = (may_close work h.1).two in let no_more : ⊥ = omega (arith, k, one) in no_more
+
+-- ---- until one atom is left
+
+module _ (work : PlainWork) (ok : IsWork work) (narrow : IsNarrow work) where
+  -- where two atoms are left, an outcome of the first sends the agent to the last
+  first_sends : work.first ≢ work.last → All (λ z. (z.atom ≡ work.first) × (sent_to z 0 ≡ Some work.last)) (outcomes_at work work.first)
+  first_sends other k d l =
+      let Of : WorkOutcome → Type 0 = λ z. (z.atom == work.first) ≡ true in
+      let Sends : WorkOutcome → Type 0 = λ z. (z.atom ≡ work.last) ⊎ (sent_to z 0 ≡ Some work.last) in
+      let z : WorkOutcome = slice_index_or (outcomes_at work work.first) k d in
+      let e : z.atom ≡ work.first = eqb-true z.atom work.first (filter_passes (λ w. w.atom == work.first) work.outcomes k d l) in
+      (e, ⊎_elim (λ q. absurd (other (sym e ∙ q))) (λ q. q) (All-filter (λ w. w.atom == work.first) Sends work.outcomes narrow.sends k d l))
+
+  -- its outcomes are found by their numbers
+  first_found : All (λ z. outcome_at work z.number ≡ Some z) (outcomes_at work work.first)
+  first_found = All-filter (λ z. z.atom == work.first) (λ z. outcome_at work z.number ≡ Some z) work.outcomes (each_found work.outcomes ok.numbers_rise)
+
+  -- the one agent
+  agent_is : (a : ℕ) → a < work.agents → a ≡ 0
+  agent_is a h = omega (arith, h, narrow.one_agent)
+
+  -- where it has one outcome, closing is allowed
+  one_closes : (x : WorkOutcome) → work.first ≢ work.last → outcomes_at work work.first ≡ x ∷ [] → IsTrue (can_close work)
+  one_closes x other e =
+      let sends : (a : ℕ) → IsTrue (is_in a (range_with_len 0 work.agents)) → same_target (sent_to x a) (Some work.last) ≡ true = λ a h.
+      let k : a ≡ 0 = agent_is a (ltb-true a work.agents (sym (is_in-range_zero a work.agents) ∙ h)) in
+      let to_last : sent_to x 0 ≡ Some work.last = (All-head (λ z. (z.atom ≡ work.first) × (sent_to z 0 ≡ Some work.last)) x [] (subst (All (λ z. (z.atom ≡ work.first) × (sent_to z 0 ≡ Some work.last))) e (first_sends other))).1 in
+      ap (λ b. same_target (sent_to x b) (Some work.last)) k ∙ (ap (λ t. same_target t (Some work.last)) to_last ∙ eq-eqb work.last work.last refl) in
+      let only : one_sends_all work.agents work.last (outcomes_at work work.first) ≡ true =
+      ap (one_sends_all work.agents work.last) e ∙ all_from (λ a. same_target (sent_to x a) (Some work.last)) (range_with_len 0 work.agents) sends in
+      and_from (length work.atoms == 2) (not (work.first == work.last) && one_sends_all work.agents work.last (outcomes_at work work.first))
+      (eq-eqb (length work.atoms) 2 two)
+      (and_from (not (work.first == work.last)) (one_sends_all work.agents work.last (outcomes_at work work.first)) (not_from_false (work.first == work.last) (ne_eqb work.first work.last other)) only)
+    where
+      two : length work.atoms ≡ 2
+      two =
+          let least : 2 ≤ length (map (λ atom. atom.number) work.atoms) = two_members (map (λ atom. atom.number) work.atoms) work.first work.last other ok.form.first_there ok.form.last_there in
+          omega (arith, least, narrow.few_atoms, length-map work.atoms (λ atom. atom.number))
+
+  -- where it has two outcomes, they merge
+  two_merge : (x y : WorkOutcome) (zs : List WorkOutcome) → work.first ≢ work.last → outcomes_at work work.first ≡ x ∷ y ∷ zs → IsTrue (can_merge work x.number y.number)
+  two_merge x y zs other e =
+      and_from (nat_lt x.number y.number) (merges work (outcome_at work x.number) (outcome_at work y.number)) (lt-ltb x.number y.number below)
+      (ap (λ f. merges work f (outcome_at work y.number)) (All-head Found x (y ∷ zs) found) ∙ (ap (λ g. merges work (Some x) g) (All-head Found y zs (All-tail Found x (y ∷ zs) found)) ∙ both))
+    where
+      Found : WorkOutcome → Type 0
+      Found z = outcome_at work z.number ≡ Some z
+
+      Sends : WorkOutcome → Type 0
+      Sends z = (z.atom ≡ work.first) × (sent_to z 0 ≡ Some work.last)
+
+      found : All Found (x ∷ y ∷ zs)
+      found = subst (All Found) e first_found
+
+      sends : All Sends (x ∷ y ∷ zs)
+      sends = subst (All Sends) e (first_sends other)
+
+      first : Sends x
+      first = All-head Sends x (y ∷ zs) sends
+
+      second : Sends y
+      second = All-head Sends y zs (All-tail Sends x (y ∷ zs) sends)
+
+      below : x.number < y.number
+      below =
+          let rise : RisesFrom 0 (numbers_of (x ∷ y ∷ zs)) = subst (λ os. RisesFrom 0 (numbers_of os)) e (rises-passing (λ z. z.atom == work.first) 0 work.outcomes ok.numbers_rise) in
+          let step : x.number + 1 ≤ y.number = rise.1.0 in
+          omega (arith, step)
+
+      same : (a : ℕ) → IsTrue (is_in a (work_parties work x.atom)) → same_target (sent_to x a) (sent_to y a) ≡ true
+      same a h =
+          let party : IsTrue (is_in a (work_parties work work.first)) = subst (λ n. IsTrue (is_in a (work_parties work n))) first.0 h in
+          let k : a ≡ 0 = agent_is a (ok.form.party_below work.first a ok.form.first_there party) in
+          ap (λ b. same_target (sent_to x b) (sent_to y b)) k ∙ (ap (λ t. same_target t (sent_to y 0)) first.1 ∙ (ap (λ t. same_target (Some work.last) t) second.1 ∙ eq-eqb work.last work.last refl))
+
+      both : IsTrue (merges work (Some x) (Some y))
+      both =
+          and_from (x.atom == y.atom) (not (x.atom == work.last) && list_all (λ a. same_target (sent_to x a) (sent_to y a)) (work_parties work x.atom))
+          (eq-eqb x.atom y.atom (first.0 ∙ sym second.0))
+          (and_from (not (x.atom == work.last)) (list_all (λ a. same_target (sent_to x a) (sent_to y a)) (work_parties work x.atom))
+          (not_from_false (x.atom == work.last) (ne_eqb x.atom work.last (λ q. other (sym first.0 ∙ q))))
+          (all_from (λ a. same_target (sent_to x a) (sent_to y a)) (work_parties work x.atom) same))
+
+  -- where two atoms are left and no merge is allowed, closing is
+  pub no_merge_closes : work.first ≢ work.last → HasNoMerge work → IsTrue (can_close work)
+  no_merge_closes other none = go (outcomes_at work work.first) refl
+    where
+      go : (xs : List WorkOutcome) → outcomes_at work work.first ≡ xs → IsTrue (can_close work)
+      go [] e = absurd (ok.form.some_outcome work.first ok.form.first_there (ap numbers_of e))
+      go (x ∷ []) e = one_closes x other e
+      go (x ∷ y ∷ zs) e = absurd (true≢false (sym (two_merge x y zs other e) ∙ none x.number y.number))
+
+  -- where no merge is allowed and no closing, one atom is left and nothing is to be done
+  pub nothing_allowed_done : HasNoMerge work → can_close work ≡ false → IsDone work
+  nothing_allowed_done none shut =
+      let one : length work.atoms ≡ 1 = narrow.apart (first_is (cases_eq work.first work.last)) in
+      record { one_atom = one; no_use = one_atom_no_use work ok one }
+    where
+      first_is : (work.first ≡ work.last) ⊎ (work.first ≢ work.last) → work.first ≡ work.last
+      first_is (inl e) = e
+      first_is (inr other) = absurd (true≢false (sym (no_merge_closes other none) ∙ shut))

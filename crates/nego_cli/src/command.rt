@@ -1,0 +1,62 @@
+//! What the words of a call say.
+
+ghost use Rattle.std.specs.Prelude.{◌≡◌};
+ghost use Rattle.nego_cli.specs.declared.command.WordsAnswer.TheVariants.{Memory as NoMemory};
+
+use nego_base::Seq;
+use std::alloc::{AllocError, AllocFailed};
+use thiserror::Error;
+
+/// A command with its numbers.
+#[derive(Debug, Drop)]
+pub enum Command {
+    /// Whether the diagram is of the form, and which.
+    Check,
+    /// The reduction of the diagram.
+    Reduce,
+    /// The replay of a certificate.
+    Replay,
+    /// The answers from a start value of each agent.
+    Ask(Seq<u32>),
+    /// The run of a schedule from a start value of each agent.
+    Run(Seq<u32>),
+    /// The run of all agents over disks and a link: the seed, the most turns, at most 10,000, and a start value of each agent.
+    Node(u64, u32, Seq<u32>),
+    /// A diagram of this size, from 2 to 64.
+    Make(u32),
+}
+
+/// Why words give no command.
+#[derive(Clone, Copy, Debug, PartialEq, Eq, Error)]
+pub enum WordsAnswer {
+    /// The words are no command.
+    #[error("the words are no command")]
+    Words,
+    /// Memory was wanted and not given.
+    #[error("out of memory")]
+    Memory,
+}
+
+impl From<AllocError> for WordsAnswer {
+    ghost from_gives = { λ _ e. e ≡ NoMemory };
+
+    fn from(_error: AllocError) -> WordsAnswer {
+        WordsAnswer::Memory
+    }
+}
+
+impl From<nego_base::Memory> for WordsAnswer {
+    ghost from_gives = { λ _ e. e ≡ NoMemory };
+
+    fn from(_error: nego_base::Memory) -> WordsAnswer {
+        WordsAnswer::Memory
+    }
+}
+
+impl<T: Drop> From<AllocFailed<T>> for WordsAnswer {
+    ghost from_gives = { λ _ e. e ≡ NoMemory };
+
+    fn from(_error: AllocFailed<T>) -> WordsAnswer {
+        WordsAnswer::Memory
+    }
+}

@@ -1,0 +1,127 @@
+//! The order in which rules are used: the least merge, else closing.
+
+ghost use Rattle.std.specs.Prelude.{◌≡◌, ◌≢◌, ℕ, ◌<◌, false, IsTrue, IfSome, IfNone, Err, IsOk, OnOk, IfOk, map};
+ghost use Rattle.nego_model.specs.Summary.{Tells};
+ghost use Rattle.nego_expr.specs.Work.{IsWork};
+ghost use Rattle.nego_expr.specs.Fresh.{fresh_work};
+ghost use Rattle.nego_expr.specs.Use.{can_merge, can_close};
+ghost use Rattle.nego_expr.specs.SummaryText.{plain_summary};
+ghost use Rattle.nego_cli.specs.Uses.{plain_use};
+ghost use Rattle.nego_cli.specs.Narrow.{IsNarrowDiagram};
+ghost use Rattle.nego_cli.specs.NarrowWork.{IsNarrow};
+ghost use Rattle.nego_cli.specs.Order.{IsLeastMerge, HasNoMerge, IsNextUse, Reduces, after_use};
+
+use nego_base::{Memory, OutcomeId};
+use nego_expr::{RuleFault, Summary, Use, Uses, Work, WorkFault};
+use nego_merge::{can_merge, merge};
+use nego_model::Diagram;
+use nego_shortcut::{can_close, close};
+use std::alloc::Global;
+
+/// What is left of a work: the uses that were made, and the summary of the work that they leave.
+#[derive(Debug, Drop)]
+pub(crate) struct Reduction {
+    pub uses: Uses,
+    pub summary: Summary,
+}
+
+/// The least outcome with which the outcome merges.
+fn partner(w: &Work, o1: OutcomeId) -> Option<OutcomeId>
+    requires work { IsWork w.now.plain }
+    ensures allowed { IfSome result (λ o2. IsTrue (can_merge w.now.plain o1.0 o2.0)) }
+    ensures least { IfSome result (λ o2. (p2 : ℕ) → p2 < o2.0 → can_merge w.now.plain o1.0 p2 ≡ false) }
+    ensures none { IfNone result ((p2 : ℕ) → can_merge w.now.plain o1.0 p2 ≡ false) }
+{
+    for o2 in 0..w.numbers() {
+        if can_merge(w, o1, OutcomeId(o2)) {
+            return Some(OutcomeId(o2));
+        }
+    }
+    None
+}
+
+/// The least merge.
+fn least_merge(w: &Work) -> Option<(OutcomeId, OutcomeId)>
+    requires work { IsWork w.now.plain }
+    ensures some { IfSome result (λ pair. IsLeastMerge w.now.plain pair.0.0 pair.1.0) }
+    ensures none { IfNone result (HasNoMerge w.now.plain) }
+{
+    for o1 in 0..w.numbers() {
+        if let Some(o2) = partner(w, OutcomeId(o1)) {
+            return Some((OutcomeId(o1), o2));
+        }
+    }
+    None
+}
+
+/// The next use.
+fn next_use(w: &Work) -> Option<Use>
+    requires work { IsWork w.now.plain }
+    ensures some { IfSome result (λ u. IsNextUse w.now.plain (plain_use u)) }
+    ensures no_merge { IfNone result (HasNoMerge w.now.plain) }
+    ensures no_closing { IfNone result (can_close w.now.plain ≡ false) }
+{
+    if let Some((o1, o2)) = least_merge(w) {
+        return Some(Use::Merge(o1, o2));
+    }
+    if can_close(w) {
+        return Some(Use::Close);
+    }
+    None
+}
+
+/// What a rule answers where it is allowed and makes no node too many.
+fn only_memory(made: Result<(), RuleFault>) -> Result<(), Memory>
+    requires allowed { made ≢ Err RuleFault.Guard }
+    requires fits { made ≢ Err RuleFault.Nodes }
+    ensures { OnOk result (IsOk made) }
+{
+    match made {
+        Ok(()) => Ok(()),
+        Err(RuleFault::Memory) => Err(Memory),
+        Err(RuleFault::Guard | RuleFault::Nodes) => unreachable!(),
+    }
+}
+
+/// Makes the next use of a narrow work, which is allowed and makes no node too many.
+fn make_use(w: &mut Work, u: Use) -> Result<(), Memory>
+    requires work { IsWork w.old.plain }
+    requires narrow { IsNarrow w.old.plain }
+    requires next { IsNextUse w.old.plain (plain_use u) }
+    ensures { OnOk result (w.new.plain ≡ after_use w.old.plain (plain_use u)) }
+{
+    match u {
+        Use::Merge(o1, o2) => only_memory(merge(w, o1, o2)),
+        Use::Close => only_memory(close(w)),
+        Use::Iterate(_) | Use::Shortcut(_, _) => unreachable!(),
+    }
+}
+
+/// Makes the uses of a narrow work in their order, until one atom is left and no use is the next one.
+pub(crate) fn reduce_work(alloc: Global, mut work: Work) -> Result<Reduction, Memory>
+    requires work { IsWork work.plain }
+    requires narrow { IsNarrow work.plain }
+    ensures { IfOk result (λ r. Reduces work.plain (map plain_use r.uses) (plain_summary r.summary)) }
+{
+    let mut uses = Uses::new(alloc);
+    while let Some(u) = next_use(&work) {
+        make_use(&mut work, u)?;
+        uses.push(u)?;
+    }
+    let summary = work.finish()?;
+    Ok(Reduction { uses, summary })
+}
+
+/// Reduces a narrow diagram: makes the uses of its fresh work in their order. It is sound, and the summary tells it.
+pub(crate) fn reduce_diagram(alloc: Global, d: &Diagram) -> Result<Reduction, Memory>
+    requires narrow { IsNarrowDiagram d.now }
+    ensures reduces { IfOk result (λ r. Reduces (fresh_work d.now) (map plain_use r.uses) (plain_summary r.summary)) }
+    ensures tells { IfOk result (λ r. Tells (plain_summary r.summary) d.now) }
+{
+    let work = match Work::new(alloc, d) {
+        Ok(work) => work,
+        Err(WorkFault::Memory) => return Err(Memory),
+        Err(WorkFault::NotDeterministic(_, _)) => unreachable!(),
+    };
+    reduce_work(alloc, work)
+}
