@@ -11,3 +11,4 @@ pub mod CaseRelations
 pub mod Offsets
 pub mod Additions
 pub mod SomeMember
+pub mod Uncovered

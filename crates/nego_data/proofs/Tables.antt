@@ -98,6 +98,29 @@ pub filter-range_less : (test : ℕ → Bool) (n : ℕ) → test n ≡ false →
 filter-range_less test n h =
     filter-range_push test n ∙ ap (λ xs. filter test (range_with_len 0 n) ++ xs) (cond-false (test n) (n ∷ []) [] h) ∙ append-nil (filter test (range_with_len 0 n))
 
+-- the numbers of a range that are in a set are the set
+pub filter-members : (count : ℕ) (row : List ℕ) → IsRisingBelow count row → filter (λ e. is_in e row) (range_with_len 0 count) ≡ row
+filter-members count row ok = same_below count kept row (record { rising = rises-filter (λ e. is_in e row) 0 (range_with_len 0 count) (rises-range 0 count); below = All-members (λ e. e < count) kept below }) ok same
+  where
+    kept : List ℕ
+    kept = filter (λ e. is_in e row) (range_with_len 0 count)
+
+    below : (e : ℕ) → is_in e kept ≡ true → e < count
+    below e k =
+        let found : (is_in e row && is_in e (range_with_len 0 count)) ≡ true = sym (is_in-filter (λ x. is_in x row) e (range_with_len 0 count)) ∙ k in
+        ltb-true e count (sym (is_in-range_zero e count) ∙ (and_parts (is_in e row) (is_in e (range_with_len 0 count)) found).1)
+
+    and_true : (b : Bool) → (b && true) ≡ b
+    and_true true = refl
+    and_true false = refl
+
+    same : (e : ℕ) → e < count → is_in e kept ≡ is_in e row
+    same e k = is_in-filter (λ x. is_in x row) e (range_with_len 0 count) ∙ ap (λ b. is_in e row && b) (is_in-range_zero e count ∙ lt-ltb e count k) ∙ and_true (is_in e row)
+
+-- the joint data to which some are related are the row of these
+pub filter-row : (table : List (List ℕ)) (d : ℕ) → IsTable (length table) table → d < length table → filter (λ e. is_related table d e) (range_with_len 0 (length table)) ≡ slice_index_or table d []
+filter-row table d ok h = filter-members (length table) (slice_index_or table d []) (row-rises_below (length table) table d ok h)
+
 -- ---- the table of a test
 
 module _ (count : ℕ) (test : ℕ → ℕ → Bool) where

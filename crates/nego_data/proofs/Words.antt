@@ -159,3 +159,11 @@ module _ (count : ℕ) (words : List ℕ) (table : List (List ℕ)) (packed : Is
   -- the table is one
   pub table_seen : IsTable (length table) table
   table_seen = subst (λ n. IsTable n table) (sym length_seen) (subst (IsTable count) seen (rows_of_words-table count words))
+
+-- a table whose words are looked at has a row for each joint data
+pub rows_seen : (count : ℕ) (words : List ℕ) (table : List (List ℕ)) → rows_of_words count words ≡ table → count ≡ length table
+rows_seen count words table seen = sym (ap length (sym seen) ∙ length-rows_of_words count words)
+
+-- and is one
+pub is_table_seen : (count : ℕ) (words : List ℕ) (table : List (List ℕ)) → rows_of_words count words ≡ table → IsTable (length table) table
+is_table_seen count words table seen = subst (λ n. IsTable n table) (rows_seen count words table seen) (subst (IsTable count) seen (rows_of_words-table count words))

@@ -9,7 +9,9 @@ use Rattle.nego_data.specs.declared.cases.Term.TheVariants as terms
 use Rattle.nego_data.specs.declared.cases.Test.{Test}
 use Rattle.nego_data.specs.declared.cases.Set.{Set}
 use Rattle.nego_data.specs.declared.cases.Case.{Case}
-use Rattle.nego_data.specs.Data.{split}
+use Rattle.nego_data.specs.declared.making.TableFault.{TableFault}
+use Rattle.nego_data.specs.declared.making.TableFault.TheVariants.{NotTotal, Memory}
+use Rattle.nego_data.specs.Data.{data_count, split}
 use Rattle.nego_data.specs.Cases.{covers}
 
 -- the agents that the right side of a comparison names
@@ -47,6 +49,21 @@ AssignsBelow sizes case = All (λ set. FitsSize set.term (slice_index sizes set.
 -- Some case covers the joint data.
 abbrev pub IsCovered : List ℕ → List Case → ℕ → Type 0
 IsCovered sizes cases d = IsTrue (list_any (λ case. covers case (split sizes d)) cases)
+
+-- Some case covers each joint data.
+abbrev pub AllCovered : List ℕ → List Case → Type 0
+AllCovered sizes cases = (d : ℕ) → d < data_count sizes → IsCovered sizes cases d
+
+-- This is the least joint data that no case covers.
+pub record IsFirstUncovered (sizes : List ℕ) (cases : List Case) (d : ℕ) : Type 0 where
+  pub below : d < data_count sizes
+  pub uncovered : ¬ IsCovered sizes cases d
+  pub least : (e : ℕ) → e < d → IsCovered sizes cases e
+
+-- Why there is no table: these are the least joint data that no case covers; or all are covered, and memory is wanted.
+abbrev pub HasTableFault : List ℕ → List Case → TableFault → Type 0
+HasTableFault sizes cases (NotTotal d) = IsFirstUncovered sizes cases d
+HasTableFault sizes cases Memory = AllCovered sizes cases
 
 -- No agent is assigned twice.
 abbrev pub AssignsOnce : Case → Type 0

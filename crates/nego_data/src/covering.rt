@@ -1,10 +1,30 @@
 //! Which joint data a case covers.
-ghost use Rattle.std.specs.Prelude.{◌≡◌, All};
+ghost use Rattle.std.specs.Prelude.{◌≡◌, ◌<◌, length, not, find, All};
+ghost use Rattle.std.specs.List.{list_any, range_with_len};
+ghost use Rattle.nego_data.specs.Data.{data_count};
+ghost use Rattle.nego_data.specs.Sizes.{tuple_of};
 ghost use Rattle.nego_data.specs.Cases.{covers, test_holds, operand_value, compares};
 ghost use Rattle.nego_data.specs.CaseForm.{TestBelow, OperandBelow};
 
+use crate::Sizes;
 use crate::cases::{Case, Operand, Test};
 use nego_base::Op;
+
+/// The least joint data that no case covers.
+pub(crate) fn first_uncovered(sizes: &Sizes, cases: &[Case]) -> Option<u16>
+    requires { All (λ case. All (TestBelow 16) case.tests) cases.now }
+    ensures { result ≡ find (λ d. not (list_any (λ case. covers case (tuple_of sizes.now d)) cases.now)) (range_with_len 0 (data_count sizes.now)) }
+{
+    (0..sizes.all()).find(|d| !any_covers(cases, &sizes.split(*d)))
+}
+
+/// Whether some case covers the values.
+fn any_covers(cases: &[Case], values: &[u16; 16]) -> bool
+    requires { All (λ case. All (TestBelow 16) case.tests) cases.now }
+    ensures { result ≡ list_any (λ case. covers case values.now) cases.now }
+{
+    cases.iter().any(|case| covers(case, values))
+}
 
 /// Whether all comparisons of the case hold of the values.
 pub(crate) fn covers(case: &Case, values: &[u16; 16]) -> bool

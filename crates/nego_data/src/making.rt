@@ -1,16 +1,16 @@
 //! The table of an outcome's cases.
-ghost use Rattle.std.specs.Prelude.{◌≡◌, ℕ, ◌+◌, ◌<◌, ◌≤◌, ◌||◌, ◌&&◌, ◌==◌, [], ◌∷◌, length, All, IsTrue, IfOk, OnOk};
+ghost use Rattle.std.specs.Prelude.{◌≡◌, ◌≢◌, ℕ, ◌+◌, ◌<◌, ◌≤◌, ◌||◌, ◌&&◌, ◌==◌, [], ◌∷◌, length, All, IsTrue, IfOk, IfErr, OnOk};
 ghost use Rattle.std.specs.List.{list_any};
 ghost use Rattle.nego_data.specs.Data.{data_count};
 ghost use Rattle.nego_data.specs.Sizes.{AreSizes};
 ghost use Rattle.nego_data.specs.Tables.{IsTable, is_related};
 ghost use Rattle.nego_data.specs.Cases.{relates, rows_of};
-ghost use Rattle.nego_data.specs.CaseForm.{NamesOnly, AssignsOnce, AssignsBelow, IsNamedBelow};
+ghost use Rattle.nego_data.specs.CaseForm.{NamesOnly, AssignsOnce, AssignsBelow, IsNamedBelow, AllCovered, HasTableFault};
 ghost use Rattle.nego_data.specs.Locality.{ActsOn};
 ghost use Rattle.nego_data.specs.declared.making.TableFault.TheVariants.{Memory as Starved};
 
 use crate::cases::Case;
-use crate::covering::covers;
+use crate::covering::{covers, first_uncovered};
 use crate::giving::{free_agents, least_values, offsets};
 use crate::{Sizes, Table};
 use nego_base::{AgentSet, Memory};
@@ -20,6 +20,9 @@ use thiserror::Error;
 /// Why a table wasn't made.
 #[derive(Clone, Copy, Debug, PartialEq, Eq, Error)]
 pub enum TableFault {
+    /// No case covers these joint data, the least such.
+    #[error("no case covers some joint data")]
+    NotTotal(u16),
     /// Want of memory.
     #[error("out of memory")]
     Memory,
@@ -33,8 +36,9 @@ impl From<Memory> for TableFault {
     }
 }
 
-/// The table of an outcome's cases, whose atom has these parties. It relates joint data as the cases do, and reads and
-/// changes the values of the parties alone.
+/// The table of an outcome's cases, whose atom has these parties. It relates joint data as the cases do, each to some,
+/// and reads and changes the values of the parties alone. The answer is `NotTotal` exactly where no case covers some
+/// joint data.
 pub fn table_of(
     alloc: Global,
     sizes: &Sizes,
@@ -48,8 +52,15 @@ pub fn table_of(
     ensures rows { IfOk result (λ table. table ≡ rows_of sizes.now cases.now) }
     ensures table { IfOk result (IsTable (data_count sizes.now)) }
     ensures acts { IfOk result (λ table. ActsOn sizes.now parties (λ d e. IsTrue (is_related table d e))) }
+    ensures covered { IfOk result (λ table. AllCovered sizes.now cases.now) }
+    ensures total { IfOk result (All (λ row. row ≢ [])) }
+    ensures err { IfErr result (HasTableFault sizes.now cases.now) }
 {
-    let mut table = Table::empty(alloc, sizes.all())?;
+    let all = sizes.all();
+    if let Some(d) = first_uncovered(sizes, cases) {
+        return Err(TableFault::NotTotal(d));
+    }
+    let mut table = Table::empty(alloc, all)?;
     for case in cases {
         add_case(alloc, &mut table, sizes, case)?;
     }

@@ -1,5 +1,5 @@
 //! Tables of joint data, kept as rows of bits.
-ghost use Rattle.std.specs.Prelude.{◌≡◌, ◌+◌, ◌*◌, ◌/◌, ◌%◌, ◌<◌, ◌≤◌, ◌-◌, [], length, replicate, slice_index_or, slice_set, IfOk};
+ghost use Rattle.std.specs.Prelude.{◌≡◌, ◌+◌, ◌*◌, ◌/◌, ◌%◌, ◌<◌, ◌≤◌, ◌-◌, [], length, replicate, slice_get, slice_index_or, slice_set, IfOk};
 ghost use Rattle.nego_base.specs.Members.{is_in, with_member};
 ghost use Rattle.nego_data.specs.Tables.{IsTable, row_words, word_place};
 
@@ -58,6 +58,36 @@ impl Table {
     {
         let word = self.words[word_place(self.count, d, e)];
         word >> (e as usize % WORD_BITS) & 1 == 1
+    }
+
+    /// How many joint data there are.
+    fn all(&self) -> u16
+        ensures value { result ≡ length self.now }
+        ensures table { IsTable (length self.now) self.now }
+    {
+        self.count
+    }
+
+    /// To how many joint data d is related. It is below the number of joint data.
+    pub fn count(&self, d: u16) -> u16
+        requires { d < length self.now }
+        ensures value { result ≡ length (slice_index_or self.now d []) }
+        ensures table { IsTable (length self.now) self.now }
+    {
+        let all = self.all();
+        (0..all).filter(|e| self.related(d, *e)).count() as u16
+    }
+
+    /// The k-th of the joint data to which d is related, in rising order and from 0; `None` where they are no more than
+    /// k. It is below the number of joint data.
+    pub fn nth(&self, d: u16, k: u16) -> Option<u16>
+        requires { d < length self.now }
+        ensures value { result ≡ slice_get (slice_index_or self.now d []) k }
+        ensures table { IsTable (length self.now) self.now }
+    {
+        let all = self.all();
+        let mut row = (0..all).filter(|e| self.related(d, *e));
+        row.nth(k as usize)
     }
 }
 

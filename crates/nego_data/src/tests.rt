@@ -2,9 +2,9 @@
 ghost use Rattle.std.specs.Prelude.{◌≡◌, [], ◌∷◌, length, IfOk};
 ghost use Rattle.nego_data.specs.CaseForm.{FitsSize, AreAmong, term_agents};
 
-use crate::cases::{Case, Set, Term, Test};
+use crate::cases::{Case, Operand, Set, Term, Test};
 use crate::{SizeFault, Sizes, Table, TableFault, table_of};
-use nego_base::{AgentId, AgentSet, Memory, Seq};
+use nego_base::{AgentId, AgentSet, Memory, Op, Seq};
 use std::alloc::Global;
 use std::process::Abort;
 use std::test::Fail;
@@ -35,6 +35,23 @@ fn assigned(alloc: Global, term: Term) -> Result<Table, TableFault>
     table_of(alloc, &sizes, AgentSet::none().with(A), &cases)
 }
 
+/// What is answered of two agents of sizes 4 and 2, and the one case `a<3 : a:=b`.
+fn partial(alloc: Global, sizes: &Sizes) -> Result<Table, TableFault>
+    requires { sizes.now ≡ 4 ∷ 2 ∷ [] }
+{
+    let tests = [Test {
+        agent: A,
+        op: Op::Lt,
+        right: Operand::Number(3),
+    }];
+    let sets = [Set {
+        agent: A,
+        term: Term::Plus(B, 0),
+    }];
+    let cases = [case_of(alloc, &tests, &sets)?];
+    table_of(alloc, sizes, AgentSet::none().with(A).with(B), &cases)
+}
+
 /// Whether the table has just these pairs.
 fn has(table: &Table, all: u16, pairs: &[(u16, u16)]) -> bool
     requires { length table.now ≡ all }
@@ -54,10 +71,13 @@ fn sizes_and_tables(rt: HostRuntime) -> Result<(), Fail> {
     faults(&rt);
     let any = assigned(rt.alloc(), Term::Any)?;
     assert!(rt; (0..4).all(|d| (0..4).all(|e| any.related(d, e))));
+    assert!(rt; (any.count(2), any.nth(2, 3), any.nth(2, 4)) == (4, Some(3), None));
     let more = assigned(rt.alloc(), Term::Plus(A, 1))?;
     assert!(rt; has(&more, 4, &[(0, 1), (1, 2), (2, 3), (3, 3)]));
     let less = assigned(rt.alloc(), Term::Minus(A, 2))?;
     assert!(rt; has(&less, 4, &[(0, 0), (1, 0), (2, 0), (3, 1)]));
+    let sizes = Sizes::new(&[4, 2])?;
+    assert!(rt; partial(rt.alloc(), &sizes).err() == Some(TableFault::NotTotal(6)));
     Ok(())
 }
 
