@@ -13,6 +13,7 @@ use Rattle.nego_model.specs.Occurring.{PlainMarking, Occurrence, ready, after, l
 use Rattle.nego_data.specs.Data.{split, joint}
 use Rattle.nego_data.specs.Cases.{relates, rows_of}
 use Rattle.nego_model.specs.Diagram.{PlainDiagram, negotiation_of}
+use Rattle.nego_model.specs.Projection.{projection, ready_behind}
 use Rattle.nego_base.proofs.Members.{is_in_single, is_in-cases}
 use Rattle.nego_model.proofs.Markings.{ready-replicate, enables-atom, enables-party}
 use Rattle.nego_model.proofs.Steps.{after-some, leaves-first}
@@ -144,3 +145,32 @@ stuck_is_unsound sound = go rest.0 rest.1
     go (step ∷ steps) e =
         let k = leaves-first (negotiation_of that_gets_stuck) ((1 ∷ []) ∷ (2 ∷ []) ∷ []) step steps (final_marking (negotiation_of that_gets_stuck)) e in
         nothing_occurs step k.0 k.1
+
+-- Two agents. After the first atom agent 0 goes to atom 1 and agent 1 to atom 2, each alone, and both meet at the last.
+abbrev that_parts : PlainDiagram
+that_parts = record {
+  agents = [] ∷ [] ∷ [];
+  sizes = 1 ∷ 1 ∷ [];
+  atoms = record { name = []; parties = 0 ∷ 1 ∷ [] } ∷ record { name = []; parties = 0 ∷ [] } ∷ record { name = []; parties = 1 ∷ [] } ∷ record { name = []; parties = 0 ∷ 1 ∷ [] } ∷ [];
+  outcomes = record { name = []; atom = 0; nexts = (1 ∷ []) ∷ (2 ∷ []) ∷ []; table = (0 ∷ []) ∷ [] } ∷ record { name = []; atom = 1; nexts = (3 ∷ []) ∷ [] ∷ []; table = (0 ∷ []) ∷ [] }
+      ∷ record { name = []; atom = 2; nexts = [] ∷ (3 ∷ []) ∷ []; table = (0 ∷ []) ∷ [] } ∷ record { name = []; atom = 3; nexts = [] ∷ [] ∷ []; table = (0 ∷ []) ∷ [] } ∷ [];
+  first = 0;
+  last = 3;
+}
+
+-- the atoms of one agent each occur in either order
+one_first : leaves (negotiation_of that_parts) (opening_marking (negotiation_of that_parts)) ((0, 0) ∷ (1, 1) ∷ (2, 2) ∷ []) ≡ Some ((3 ∷ []) ∷ (3 ∷ []) ∷ [])
+one_first = refl
+
+two_first : leaves (negotiation_of that_parts) (opening_marking (negotiation_of that_parts)) ((0, 0) ∷ (2, 2) ∷ (1, 1) ∷ []) ≡ Some ((3 ∷ []) ∷ (3 ∷ []) ∷ [])
+two_first = refl
+
+-- what agent 1 sees in both orders, and what it is then ready for
+seen_in_one : projection (negotiation_of that_parts) 1 ((0, 0) ∷ (1, 1) ∷ (2, 2) ∷ []) ≡ (0, 0) ∷ (2, 2) ∷ []
+seen_in_one = refl
+
+seen_in_two : projection (negotiation_of that_parts) 1 ((0, 0) ∷ (2, 2) ∷ (1, 1) ∷ []) ≡ (0, 0) ∷ (2, 2) ∷ []
+seen_in_two = refl
+
+ready_then : ready_behind (negotiation_of that_parts) 1 (0 ∷ []) ((0, 0) ∷ (2, 2) ∷ []) ≡ 3 ∷ []
+ready_then = refl

@@ -9,6 +9,8 @@ pub mod Ways
 pub mod Gathered
 pub mod Simulating
 pub mod Commuting
+pub mod Exchanging
+pub mod Projections
 pub mod Acting
 pub mod Alike
 pub mod Diagrams
@@ -16,4 +18,8 @@ pub mod OneAtom
 pub mod OneCase
 pub mod Readers
 pub mod Making
+pub mod Kept
+pub mod Followed
 mod Examples
+pub mod PairLaws
+pub mod OutcomeNumbers

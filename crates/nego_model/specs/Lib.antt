@@ -1,11 +1,15 @@
 pub mod Negotiation
 pub mod Occurring
+pub mod Projection
 pub mod Joining
 pub mod Reaching
+pub mod Acyclic
 pub mod Locality
 pub mod Expression
 pub mod Diagram
+pub mod Undetermined
 pub mod Limits
 pub mod Parts
+pub mod Followed
 pub mod Summary
 pub mod Laws

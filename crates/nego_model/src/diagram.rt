@@ -84,6 +84,7 @@ impl Diagram {
     pub fn first(&self) -> AtomId
         ensures value { result.0 ≡ self.now.first }
         ensures in_range { result.0 < length self.now.atoms }
+        ensures limits { IsWithinLimits self.now }
     {
         self.parts.first
     }

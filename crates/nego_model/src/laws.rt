@@ -1,6 +1,6 @@
 //! Laws over the definitions. Each function does nothing; its clause is the law.
 
-ghost use Rattle.nego_model.specs.Laws.{CompleteRunsEndWithTheLastAtom, JoinsThroughBetween, ExpressionsJoinThroughBetween, OlderNodesKeepTheirMeaning, CompleteRunsPassEveryoneAtTheLastAtom, CompleteRunsOfExpressionsPassEveryoneAtTheLastAtom};
+ghost use Rattle.nego_model.specs.Laws.{CompleteRunsEndWithTheLastAtom, JoinsThroughBetween, ExpressionsJoinThroughBetween, OlderNodesKeepTheirMeaning, CompleteRunsPassEveryoneAtTheLastAtom, CompleteRunsOfExpressionsPassEveryoneAtTheLastAtom, StepsApartCommute, StepsApartJoinTheSame, ExpressionsApartJoinTheSame, NeighboursChangePlaces, NeighboursKeepJoinedData, NeighboursKeepProjections, ReadinessFollowsFromTheProjection, SameProjectionsLeaveTheSame};
 
 /// A complete run isn't empty, and its last entry is of the last atom.
 pub fn complete_runs_end_with_the_last_atom()
@@ -22,4 +22,26 @@ pub fn older_nodes_keep_their_meaning()
 pub fn complete_runs_pass_everyone_at_the_last_atom()
     ensures outcomes { CompleteRunsPassEveryoneAtTheLastAtom }
     ensures expressions { CompleteRunsOfExpressionsPassEveryoneAtTheLastAtom }
+{}
+
+/// Two occurrences that a marking allows, of atoms without a common party, happen in each order, leave the same marking
+/// and join the same data.
+pub fn steps_apart_commute()
+    ensures marking { StepsApartCommute }
+    ensures outcomes { StepsApartJoinTheSame }
+    ensures expressions { ExpressionsApartJoinTheSame }
+{}
+
+/// Two neighbours in a run, of atoms without a common party, may change places: the same marking is left, the same data
+/// are joined, and each agent sees the same.
+pub fn neighbours_apart_change_places()
+    ensures marking { NeighboursChangePlaces }
+    ensures joined { NeighboursKeepJoinedData }
+    ensures projections { NeighboursKeepProjections }
+{}
+
+/// What an agent is ready for after a run follows from the run's projection on it.
+pub fn readiness_follows_from_the_projection()
+    ensures ready { ReadinessFollowsFromTheProjection }
+    ensures marking { SameProjectionsLeaveTheSame }
 {}

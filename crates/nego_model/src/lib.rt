@@ -2,8 +2,14 @@
 #![tactic(auto)]
 
 mod diagram;
+mod following;
 pub mod laws;
+mod marking;
 mod parts;
+mod runs;
 
 pub use diagram::Diagram;
+pub use following::follow;
+pub use marking::Marking;
 pub use parts::{AtomPart, OutcomePart, Parts};
+pub use runs::{Follow, Run};

@@ -1,0 +1,8 @@
+use Rattle.nego_model.proofs.Projections.{ready-run, same_seen}
+use Rattle.nego_model.proofs.laws.readiness_follows_from_the_projection.Goals as goal
+
+pub returns-clause-ready : goal.returns-clause-ready
+returns-clause-ready c = ready-run
+
+pub returns-clause-marking : goal.returns-clause-marking
+returns-clause-marking c = same_seen

@@ -1,0 +1,19 @@
+-- What one agent sees of a run.
+use Rattle.std.specs.Prelude.{ℕ, List, [], ◌∷◌, IsTrue}
+use Rattle.std.specs.List.{filter}
+use Rattle.nego_base.specs.Members.{is_in}
+use Rattle.nego_model.specs.Negotiation.{Negotiation}
+use Rattle.nego_model.specs.Occurring.{Occurrence}
+
+-- Nobody is in both lists.
+abbrev pub AreApart : List ℕ → List ℕ → Type 0
+AreApart one two = (a : ℕ) → IsTrue (is_in a one) → IsTrue (is_in a two) → ⊥
+
+-- the entries whose atom has the agent as a party
+abbrev pub projection : Negotiation → ℕ → List Occurrence → List Occurrence
+projection nego a run = filter (λ step. is_in a (nego.parties step.0)) run
+
+-- what an agent is ready for who was ready for the given atoms and then took part in these entries
+abbrev pub ready_behind : Negotiation → ℕ → List ℕ → List Occurrence → List ℕ
+ready_behind nego a here [] = here
+ready_behind nego a here (step ∷ steps) = ready_behind nego a (nego.next step.1 a) steps
