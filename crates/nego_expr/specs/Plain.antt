@@ -1,8 +1,9 @@
 -- How the program's values are seen: nodes, summaries, and works with room for more.
-use Rattle.std.specs.Prelude.{◌≡◌, ◌⊎◌, ℕ, ◌+◌, ◌<◌, ◌≤◌, ◌==◌, if◌then◌else◌, List, ◌++◌, ◌∷◌, [], length, map, not, filter, Option}
+use Rattle.std.specs.Prelude.{ℕ, ◌+◌, ◌==◌, if◌then◌else◌, List, ◌++◌, ◌∷◌, [], map, not, filter, Option}
 use Rattle.nego_model.specs.Expression.{PlainNode, Base, Join, Then, Star}
 use Rattle.nego_model.specs.Negotiation.{IsDeterministic}
-use Rattle.nego_model.specs.Diagram.{PlainDiagram, negotiation_of, nexts_of}
+use Rattle.nego_model.specs.Diagram.{PlainDiagram, negotiation_of}
+use Rattle.nego_model.specs.Undetermined.{IsFirstUndetermined}
 use Rattle.nego_expr.specs.declared.node.Node.{Node}
 use Rattle.nego_expr.specs.declared.node.Node.TheVariants as variants
 use Rattle.nego_expr.specs.declared.uses.WorkFault.{WorkFault}
@@ -62,13 +63,6 @@ add_outcome work n targets node passed = record work {
   numbers = work.numbers + 1;
   outcomes = work.outcomes ++ record { number = work.numbers; atom = n; targets = targets; node = node; passed = passed } ∷ [];
 }
-
--- The least pair of an outcome and an agent, by outcome and then by agent, with two next atoms or more.
-pub record IsFirstUndetermined (diagram : PlainDiagram) (o a : ℕ) : Type 0 where
-  pub outcome : o < length diagram.outcomes
-  pub agent : a < length diagram.agents
-  pub two : 1 < length (nexts_of diagram o a)
-  pub least : (p b : ℕ) → p < length diagram.outcomes → b < length diagram.agents → ((p < o) ⊎ ((p ≡ o) × (b < a))) → length (nexts_of diagram p b) ≤ 1
 
 -- Why a diagram has no work: this pair is the least with two next atoms or more. Want of memory comes only where
 -- there is no such pair.

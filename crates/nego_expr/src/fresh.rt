@@ -4,11 +4,12 @@ ghost use Rattle.std.specs.List.{range_with_len};
 ghost use Rattle.nego_model.specs.Negotiation.{IsDeterministic};
 ghost use Rattle.nego_model.specs.Expression.{Base};
 ghost use Rattle.nego_model.specs.Diagram.{IsDiagram, negotiation_of, parties_of, nexts_of, outcome_name};
+ghost use Rattle.nego_model.specs.Undetermined.{IsFirstUndetermined};
 ghost use Rattle.nego_model.specs.Limits.{IsWithinLimits};
 ghost use Rattle.nego_model.specs.Summary.{final_outcomes};
 ghost use Rattle.nego_expr.specs.Work.{IsWork};
 ghost use Rattle.nego_expr.specs.Fresh.{HasTheRuns, Stands, fresh_at, fresh_work, outcomes_of};
-ghost use Rattle.nego_expr.specs.Plain.{IsFirstUndetermined, WorkFaultHolds};
+ghost use Rattle.nego_expr.specs.Plain.{WorkFaultHolds};
 ghost use Rattle.nego_expr.specs.Use.{most_nodes};
 ghost use Rattle.nego_expr.specs.WorkView.{plain_outcome};
 
