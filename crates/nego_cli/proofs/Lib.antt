@@ -5,9 +5,7 @@ pub mod NumberWords
 pub mod WordLaws
 pub mod Found
 pub mod Said
-pub mod PairLaws
 pub mod Mapped
-pub mod OutcomeNumbers
 pub mod SoloDiagrams
 pub mod SoloParts
 pub mod SoloContents
@@ -19,3 +17,4 @@ pub mod NarrowFresh
 pub mod LeastMerge
 pub mod CertificateLines
 pub mod OnlyMemory
+pub mod NarrowTests

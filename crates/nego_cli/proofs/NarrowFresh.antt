@@ -2,16 +2,17 @@
 use Rattle.std.proofs.Common.{◌≡◌, ◌⊎◌, inl, inr, ⊎_elim, ℕ, suc, ◌+◌, List, [], ◌∷◌, length, map, slice_get, slice_index_or, Some, None, refl, sym, subst, ap, ◌∙◌, arith, ◌<◌, ◌≤◌}
 use Rattle.std.specs.List.{range_with_len}
 use Rattle.std.specs.Option.{option_map_or}
-use Rattle.std.proofs.lemmas.List.FromFn.{length-map-range_with_len}
+use Rattle.std.proofs.lemmas.List.FromFn.{length-map-range_with_len, get_or-map-range_with_len}
 use Rattle.std.proofs.lemmas.List.Elements.{All-get_or}
 use Rattle.std.proofs.lemmas.Option.{slice_get_within, get_or_from_slice_get, slice_get-get_or}
-use Rattle.nego_model.specs.Negotiation.{IsOutcome}
+use Rattle.nego_model.specs.Negotiation.{IsOutcome, IsDeterministic}
 use Rattle.nego_model.specs.Expression.{Base}
 use Rattle.nego_model.specs.Diagram.{PlainAtom, PlainOutcome, PlainDiagram, IsDiagram, negotiation_of, nexts_of}
 use Rattle.nego_expr.specs.Work.{sent_to}
 use Rattle.nego_expr.specs.Fresh.{atoms_from, outcomes_of, fresh_work}
 use Rattle.nego_expr.proofs.FreshLists.{fresh_outcome, All-outcomes_of}
 use Rattle.nego_expr.proofs.FreshWorks.{diagram_outcome}
+use Rattle.nego_expr.proofs.Undetermined.{determined}
 use Rattle.nego_cli.specs.Narrow.{IsNarrowDiagram}
 use Rattle.nego_cli.specs.NarrowWork.{IsNarrow}
 
@@ -25,16 +26,13 @@ length-outcomes_of diagram o (x ∷ xs) = ap suc (length-outcomes_of diagram (o 
 
 module _ (diagram : PlainDiagram) (narrow : IsNarrowDiagram diagram) where
   abbrev Fits : PlainOutcome → Type 0
-  Fits x = (x.atom ≡ diagram.last) ⊎ (slice_index_or x.nexts 0 [] ≡ diagram.last ∷ [])
+  Fits x = (x.atom ≡ diagram.last) ⊎ ((a : ℕ) → a < length diagram.agents → slice_index_or x.nexts a [] ≡ diagram.last ∷ [])
 
   -- where the fresh outcome of a number sends the agent
-  sent : (o : ℕ) (x : PlainOutcome) → sent_to (fresh_outcome diagram o x) 0 ≡ slice_get (nexts_of diagram o 0) 0
-  sent o x = ap (λ count. slice_index_or (map (λ a. slice_get (nexts_of diagram o a) 0) (range_with_len 0 count)) 0 None) narrow.one_agent
-
-  sent_last : (o : ℕ) (x : PlainOutcome) → slice_get diagram.outcomes o ≡ Some x → slice_index_or x.nexts 0 [] ≡ diagram.last ∷ [] → sent_to (fresh_outcome diagram o x) 0 ≡ Some diagram.last
-  sent_last o x there leads =
-      let nexts : nexts_of diagram o 0 ≡ diagram.last ∷ [] = ap (λ found. option_map_or (λ outcome. slice_index_or outcome.nexts 0 []) found []) there ∙ leads in
-      sent o x ∙ ap (λ ns. slice_get ns 0) nexts
+  sent_last : (o a : ℕ) (x : PlainOutcome) → slice_get diagram.outcomes o ≡ Some x → a < length diagram.agents → slice_index_or x.nexts a [] ≡ diagram.last ∷ [] → sent_to (fresh_outcome diagram o x) a ≡ Some diagram.last
+  sent_last o a x there agent leads =
+      let nexts : nexts_of diagram o a ≡ diagram.last ∷ [] = ap (λ found. option_map_or (λ outcome. slice_index_or outcome.nexts a []) found []) there ∙ leads in
+      get_or-map-range_with_len (λ b. slice_get (nexts_of diagram o b) 0) 0 (length diagram.agents) a a None agent (omega arith) ∙ ap (λ ns. slice_get ns 0) nexts
 
   fits : (o : ℕ) (x : PlainOutcome) → slice_get diagram.outcomes o ≡ Some x → Fits x
   fits o x there = subst Fits (get_or_from_slice_get diagram.outcomes o x x there) (All-get_or Fits diagram.outcomes o x (slice_get_within diagram.outcomes o x there) narrow.sends)
@@ -42,11 +40,10 @@ module _ (diagram : PlainDiagram) (narrow : IsNarrowDiagram diagram) where
   pub narrow_fresh : IsNarrow (fresh_work diagram)
   unfolding fresh_work
   narrow_fresh = record {
-    one_agent = narrow.one_agent;
     few_atoms = omega (arith, length-atoms_from 0 diagram.atoms, narrow.few_atoms);
     apart = λ e. length-atoms_from 0 diagram.atoms ∙ narrow.apart e;
-    sends = All-outcomes_of diagram (λ z. (z.atom ≡ diagram.last) ⊎ (sent_to z 0 ≡ Some diagram.last)) 0 diagram.outcomes
-        (λ k x there. ⊎_elim (λ e. inl e) (λ e. inr (sent_last (0 + k) x (let q : 0 + k ≡ k = omega arith in subst (λ o. slice_get diagram.outcomes o ≡ Some x) (sym q) there) e)) (fits k x there));
+    sends = All-outcomes_of diagram (λ z. (z.atom ≡ diagram.last) ⊎ ((a : ℕ) → a < length diagram.agents → sent_to z a ≡ Some diagram.last)) 0 diagram.outcomes
+        (λ k x there. ⊎_elim (λ e. inl e) (λ e. inr (λ a agent. sent_last (0 + k) a x (let q : 0 + k ≡ k = omega arith in subst (λ o. slice_get diagram.outcomes o ≡ Some x) (sym q) there) agent (e a agent))) (fits k x there));
     room = λ other.
         let nodes : length (map Base (range_with_len 0 (length diagram.outcomes))) ≡ length diagram.outcomes = length-map-range_with_len Base 0 (length diagram.outcomes) in
         omega (arith, nodes, length-outcomes_of diagram 0 diagram.outcomes, narrow.few_outcomes);
@@ -65,12 +62,13 @@ narrow_determined diagram ok narrow o a inside agent = at_agent (fits diagram na
     there : slice_get diagram.outcomes o ≡ Some x
     there = slice_get-get_or diagram.outcomes o nobody inside
 
-    only : a ≡ 0
-    only = omega (arith, agent, narrow.one_agent)
+    short : (nexts : List ℕ) → nexts_of diagram o a ≡ nexts → length nexts ≤ 1 → length (nexts_of diagram o a) ≤ 1
+    short nexts e h = subst (λ ns. length ns ≤ 1) (sym e) h
 
-    short : (nexts : List ℕ) → nexts_of diagram o 0 ≡ nexts → length nexts ≤ 1 → length (nexts_of diagram o a) ≤ 1
-    short nexts e h = subst (λ b. length (nexts_of diagram o b) ≤ 1) (sym only) (subst (λ ns. length ns ≤ 1) (sym e) h)
+    at_agent : (x.atom ≡ diagram.last) ⊎ ((b : ℕ) → b < length diagram.agents → slice_index_or x.nexts b [] ≡ diagram.last ∷ []) → length (nexts_of diagram o a) ≤ 1
+    at_agent (inl e) = short [] (ok.form.last_ends o a (subst (λ n. IsOutcome (negotiation_of diagram) n o) e (diagram_outcome diagram ok o x there))) (omega arith)
+    at_agent (inr e) = short (diagram.last ∷ []) (ap (λ found. option_map_or (λ outcome. slice_index_or outcome.nexts a []) found []) there ∙ e a agent) (omega arith)
 
-    at_agent : (x.atom ≡ diagram.last) ⊎ (slice_index_or x.nexts 0 [] ≡ diagram.last ∷ []) → length (nexts_of diagram o a) ≤ 1
-    at_agent (inl e) = short [] (ok.form.last_ends o 0 (subst (λ n. IsOutcome (negotiation_of diagram) n o) e (diagram_outcome diagram ok o x there))) (omega arith)
-    at_agent (inr e) = short (diagram.last ∷ []) (ap (λ found. option_map_or (λ outcome. slice_index_or outcome.nexts 0 []) found []) there ∙ e) (omega arith)
+-- so it is deterministic
+pub narrow_deterministic : (diagram : PlainDiagram) → IsDiagram diagram → IsNarrowDiagram diagram → IsDeterministic (negotiation_of diagram)
+narrow_deterministic diagram ok narrow = determined diagram ok (narrow_determined diagram ok narrow)

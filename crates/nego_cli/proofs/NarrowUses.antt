@@ -27,7 +27,7 @@ pub record LeavesLess (old new : PlainWork) : Type 0 where
 
 module _ (work : PlainWork) (ok : IsWork work) (narrow : IsNarrow work) where
   abbrev SendsAll : WorkOutcome → Type 0
-  SendsAll z = (z.atom ≡ work.last) ⊎ (sent_to z 0 ≡ Some work.last)
+  SendsAll z = (z.atom ≡ work.last) ⊎ ((a : ℕ) → a < work.agents → sent_to z a ≡ Some work.last)
 
   -- ---- merges
 
@@ -53,7 +53,6 @@ module _ (work : PlainWork) (ok : IsWork work) (narrow : IsNarrow work) where
     merge_leaves : LeavesLess work (merged_of work x y)
     merge_leaves = record {
       narrow = record {
-        one_agent = narrow.one_agent;
         few_atoms = narrow.few_atoms;
         apart = narrow.apart;
         sends = All-with_outcome SendsAll joined left (All-found SendsAll work.outcomes o1 x narrow.sends two.first) (All-without_outcome SendsAll y.number work.outcomes narrow.sends);
@@ -107,10 +106,9 @@ module _ (work : PlainWork) (ok : IsWork work) (narrow : IsNarrow work) where
     close_leaves : LeavesLess work (closed_of work x)
     close_leaves = record {
       narrow = record {
-        one_agent = narrow.one_agent;
         few_atoms = omega (arith, one_left);
         apart = λ e. one_left;
-        sends = All-with_nodes_from (λ z. (z.atom ≡ work.last) ⊎ (sent_to z 0 ≡ Some work.last)) (length work.nodes) finals (λ k z e. inl (last_atom k z e));
+        sends = All-with_nodes_from SendsAll (length work.nodes) finals (λ k z e. inl (last_atom k z e));
         room = λ other. absurd (other refl);
       };
       few_nodes = omega (arith, close_fits, as_many_more);

@@ -117,11 +117,14 @@ one_atom_no_use work ok one Close h = let k : length work.atoms ≡ 2 = (may_clo
 -- ---- until one atom is left
 
 module _ (work : PlainWork) (ok : IsWork work) (narrow : IsNarrow work) where
-  -- where two atoms are left, an outcome of the first sends the agent to the last
-  first_sends : work.first ≢ work.last → All (λ z. (z.atom ≡ work.first) × (sent_to z 0 ≡ Some work.last)) (outcomes_at work work.first)
+  -- The outcome is of the first atom, and sends every agent to the last.
+  abbrev FirstSends : WorkOutcome → Type 0
+  FirstSends z = (z.atom ≡ work.first) × ((a : ℕ) → a < work.agents → sent_to z a ≡ Some work.last)
+
+  -- where two atoms are left, an outcome of the first sends every agent to the last
+  first_sends : work.first ≢ work.last → All FirstSends (outcomes_at work work.first)
   first_sends other k d l =
-      let Of : WorkOutcome → Type 0 = λ z. (z.atom == work.first) ≡ true in
-      let Sends : WorkOutcome → Type 0 = λ z. (z.atom ≡ work.last) ⊎ (sent_to z 0 ≡ Some work.last) in
+      let Sends : WorkOutcome → Type 0 = λ z. (z.atom ≡ work.last) ⊎ ((a : ℕ) → a < work.agents → sent_to z a ≡ Some work.last) in
       let z : WorkOutcome = slice_index_or (outcomes_at work work.first) k d in
       let e : z.atom ≡ work.first = eqb-true z.atom work.first (filter_passes (λ w. w.atom == work.first) work.outcomes k d l) in
       (e, ⊎_elim (λ q. absurd (other (sym e ∙ q))) (λ q. q) (All-filter (λ w. w.atom == work.first) Sends work.outcomes narrow.sends k d l))
@@ -130,17 +133,12 @@ module _ (work : PlainWork) (ok : IsWork work) (narrow : IsNarrow work) where
   first_found : All (λ z. outcome_at work z.number ≡ Some z) (outcomes_at work work.first)
   first_found = All-filter (λ z. z.atom == work.first) (λ z. outcome_at work z.number ≡ Some z) work.outcomes (each_found work.outcomes ok.numbers_rise)
 
-  -- the one agent
-  agent_is : (a : ℕ) → a < work.agents → a ≡ 0
-  agent_is a h = omega (arith, h, narrow.one_agent)
-
   -- where it has one outcome, closing is allowed
   one_closes : (x : WorkOutcome) → work.first ≢ work.last → outcomes_at work work.first ≡ x ∷ [] → IsTrue (can_close work)
   one_closes x other e =
       let sends : (a : ℕ) → IsTrue (is_in a (range_with_len 0 work.agents)) → same_target (sent_to x a) (Some work.last) ≡ true = λ a h.
-      let k : a ≡ 0 = agent_is a (ltb-true a work.agents (sym (is_in-range_zero a work.agents) ∙ h)) in
-      let to_last : sent_to x 0 ≡ Some work.last = (All-head (λ z. (z.atom ≡ work.first) × (sent_to z 0 ≡ Some work.last)) x [] (subst (All (λ z. (z.atom ≡ work.first) × (sent_to z 0 ≡ Some work.last))) e (first_sends other))).1 in
-      ap (λ b. same_target (sent_to x b) (Some work.last)) k ∙ (ap (λ t. same_target t (Some work.last)) to_last ∙ eq-eqb work.last work.last refl) in
+      let first : FirstSends x = All-head FirstSends x [] (subst (All FirstSends) e (first_sends other)) in
+      ap (λ t. same_target t (Some work.last)) (first.1 a (ltb-true a work.agents (sym (is_in-range_zero a work.agents) ∙ h))) ∙ eq-eqb work.last work.last refl in
       let only : one_sends_all work.agents work.last (outcomes_at work work.first) ≡ true =
       ap (one_sends_all work.agents work.last) e ∙ all_from (λ a. same_target (sent_to x a) (Some work.last)) (range_with_len 0 work.agents) sends in
       and_from (length work.atoms == 2) (not (work.first == work.last) && one_sends_all work.agents work.last (outcomes_at work work.first))
@@ -161,20 +159,17 @@ module _ (work : PlainWork) (ok : IsWork work) (narrow : IsNarrow work) where
       Found : WorkOutcome → Type 0
       Found z = outcome_at work z.number ≡ Some z
 
-      Sends : WorkOutcome → Type 0
-      Sends z = (z.atom ≡ work.first) × (sent_to z 0 ≡ Some work.last)
-
       found : All Found (x ∷ y ∷ zs)
       found = subst (All Found) e first_found
 
-      sends : All Sends (x ∷ y ∷ zs)
-      sends = subst (All Sends) e (first_sends other)
+      sends : All FirstSends (x ∷ y ∷ zs)
+      sends = subst (All FirstSends) e (first_sends other)
 
-      first : Sends x
-      first = All-head Sends x (y ∷ zs) sends
+      first : FirstSends x
+      first = All-head FirstSends x (y ∷ zs) sends
 
-      second : Sends y
-      second = All-head Sends y zs (All-tail Sends x (y ∷ zs) sends)
+      second : FirstSends y
+      second = All-head FirstSends y zs (All-tail FirstSends x (y ∷ zs) sends)
 
       below : x.number < y.number
       below =
@@ -185,8 +180,8 @@ module _ (work : PlainWork) (ok : IsWork work) (narrow : IsNarrow work) where
       same : (a : ℕ) → IsTrue (is_in a (work_parties work x.atom)) → same_target (sent_to x a) (sent_to y a) ≡ true
       same a h =
           let party : IsTrue (is_in a (work_parties work work.first)) = subst (λ n. IsTrue (is_in a (work_parties work n))) first.0 h in
-          let k : a ≡ 0 = agent_is a (ok.form.party_below work.first a ok.form.first_there party) in
-          ap (λ b. same_target (sent_to x b) (sent_to y b)) k ∙ (ap (λ t. same_target t (sent_to y 0)) first.1 ∙ (ap (λ t. same_target (Some work.last) t) second.1 ∙ eq-eqb work.last work.last refl))
+          let below : a < work.agents = ok.form.party_below work.first a ok.form.first_there party in
+          ap (λ t. same_target t (sent_to y a)) (first.1 a below) ∙ (ap (λ t. same_target (Some work.last) t) (second.1 a below) ∙ eq-eqb work.last work.last refl)
 
       both : IsTrue (merges work (Some x) (Some y))
       both =

@@ -13,7 +13,7 @@ use Rattle.nego_reader.specs.Content.{Content, AgentContent, AtomContent, OutCon
 use Rattle.nego_cli.specs.Solo.{SoloOutcome, SoloAtom, SoloForm, IsSoloOutcome, IsSoloAtom, IsSolo}
 use Rattle.nego_cli.specs.SoloContent.{sets_said, case_said, out_said, atom_said, content_of_form}
 use Rattle.nego_cli.specs.SoloReading.{fits_term, fits_sets, fits_case, is_alone, fits_nexts, fits_out, names_differ, fits_atom, fits_agent, fits_atoms, fits_agents, fits, number_in, value_among, value_in, outcome_in, atom_in, form_among, form_with, form_in}
-use Rattle.nego_cli.proofs.PairLaws.{AllPairs-cons, AllPairs-head, AllPairs-tail, AllPairs-map}
+use Rattle.nego_model.proofs.PairLaws.{AllPairs-cons, AllPairs-head, AllPairs-tail, AllPairs-map}
 
 -- The content is that of the form.
 pub record Says (content : Content) (form : SoloForm) : Type 0 where

@@ -15,7 +15,7 @@ use Rattle.nego_data.proofs.CaseRelations.{rows_of-acts, rows_of-some}
 use Rattle.nego_model.specs.Diagram.{PlainOutcome, PlainDiagram, IsDiagram, outcomes_from, parties_of}
 use Rattle.nego_model.proofs.Making.{AtomFits, OutcomeLeads, HasForm, TableFits, diagram_from_form}
 use Rattle.nego_cli.specs.Solo.{SoloOutcome, SoloAtom, SoloForm, IsSoloOutcome, IsSoloAtom, IsSolo, case_of, atom_of, outcome_of, diagram_of}
-use Rattle.nego_cli.proofs.OutcomeNumbers.{outcomes_from-append, outcomes_from-all, outcomes_from-none}
+use Rattle.nego_model.proofs.OutcomeNumbers.{outcomes_from-append, outcomes_from-all, outcomes_from-none}
 
 -- ---- the cases of an outcome
 
@@ -45,7 +45,7 @@ case_of-below size (Some n) below =
     (All-nil (λ (set : Set). FitsSize set.term (slice_index (size ∷ []) set.agent.0)))
 
 -- some case covers all data
-cases-cover : (size : ℕ) (values : List (Option ℕ)) (d : ℕ) → values ≢ [] → IsCovered (size ∷ []) (map case_of values) d
+pub cases-cover : (size : ℕ) (values : List (Option ℕ)) (d : ℕ) → values ≢ [] → IsCovered (size ∷ []) (map case_of values) d
 cases-cover size [] d some = absurd (some refl)
 cases-cover size (value ∷ values) d some = refl
 

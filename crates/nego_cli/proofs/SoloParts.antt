@@ -19,7 +19,7 @@ use Rattle.nego_model.proofs.Diagrams.{outcome_at, nexts_of-at}
 use Rattle.nego_model.proofs.Readers.{all_at_place}
 use Rattle.nego_cli.specs.Narrow.{IsNarrowDiagram}
 use Rattle.nego_cli.specs.Solo.{SoloOutcome, SoloAtom, SoloForm, IsSoloAtom, IsSolo, atom_of, outcome_of, diagram_of}
-use Rattle.nego_cli.proofs.PairLaws.{AllPairs-append, AllPairs-map, in_order-append}
+use Rattle.nego_model.proofs.PairLaws.{AllPairs-append, AllPairs-map, in_order-append}
 use Rattle.nego_cli.proofs.SoloDiagrams.{made_of, solo_diagram}
 
 -- ---- deterministic
@@ -93,10 +93,9 @@ module _ (agent : List ℕ) (size : ℕ) (last : SoloAtom) (ok : IsSolo (record 
 
   one_narrow : IsNarrowDiagram one
   one_narrow = record {
-    one_agent = refl;
     few_atoms = omega arith;
     apart = λ e. refl;
-    sends = All-map (λ o. (o.atom ≡ 0) ⊎ (slice_index_or o.nexts 0 [] ≡ 0 ∷ [])) (outcome_of size 0 []) last.outcomes (λ k d h. inl refl);
+    sends = All-map (λ o. (o.atom ≡ 0) ⊎ ((a : ℕ) → a < 1 → slice_index_or o.nexts a [] ≡ 0 ∷ [])) (outcome_of size 0 []) last.outcomes (λ k d h. inl refl);
     few_outcomes = one_few;
   }
 
@@ -142,14 +141,22 @@ module _ (agent : List ℕ) (size : ℕ) (first last : SoloAtom) (ok : IsSolo (r
       let g : length two.outcomes ≡ length begin + length end = length-append begin end in
       omega (arith, ok.few_outcomes)
 
+  -- The outcome is of the last atom, or sends the agent there.
+  abbrev Sends : PlainOutcome → Type 0
+  Sends o = (o.atom ≡ 1) ⊎ ((a : ℕ) → a < 1 → slice_index_or o.nexts a [] ≡ 1 ∷ [])
+
+  -- where the agent's list of next atoms is this one
+  one_agent : (a : ℕ) → a < 1 → slice_index_or {A = List ℕ} ((1 ∷ []) ∷ []) a [] ≡ 1 ∷ []
+  one_agent zero h = refl
+  one_agent (suc a) h = absurd (let no_more : ⊥ = omega (arith, h) in no_more)
+
   two_narrow : IsNarrowDiagram two
   two_narrow = record {
-    one_agent = refl;
     few_atoms = omega arith;
     apart = λ e. absurd (let no : ⊥ = omega (arith, e) in no);
-    sends = All-append (λ o. (o.atom ≡ 1) ⊎ (slice_index_or o.nexts 0 [] ≡ 1 ∷ [])) begin end
-        (All-map (λ o. (o.atom ≡ 1) ⊎ (slice_index_or o.nexts 0 [] ≡ 1 ∷ [])) (outcome_of size 0 (1 ∷ [])) first.outcomes (λ k d h. inr refl))
-        (All-map (λ o. (o.atom ≡ 1) ⊎ (slice_index_or o.nexts 0 [] ≡ 1 ∷ [])) (outcome_of size 1 []) last.outcomes (λ k d h. inl refl));
+    sends = All-append Sends begin end
+        (All-map Sends (outcome_of size 0 (1 ∷ [])) first.outcomes (λ k d h. inr one_agent))
+        (All-map Sends (outcome_of size 1 []) last.outcomes (λ k d h. inl refl));
     few_outcomes = two_few;
   }
 

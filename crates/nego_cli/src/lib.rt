@@ -6,6 +6,7 @@ mod certificate;
 mod command;
 mod deliver;
 mod form;
+mod narrow;
 mod order;
 mod reduction;
 mod refusal;

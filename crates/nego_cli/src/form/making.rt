@@ -1,6 +1,6 @@
 //! The diagram of one agent with one or two atoms, made from what its text says.
 
-ghost use Rattle.std.specs.Prelude.{◌≡◌, ◌<◌, ◌≤◌, [], ◌∷◌, ◌++◌, length, map, slice_index, All, IfOk, IfSome, OnOk};
+ghost use Rattle.std.specs.Prelude.{◌≡◌, ◌≢◌, ◌<◌, ◌≤◌, [], ◌∷◌, ◌++◌, length, map, slice_index, All, IfOk, IfSome, OnOk};
 ghost use Rattle.nego_data.specs.Cases.{rows_of};
 ghost use Rattle.nego_data.specs.Sizes.{AreSizes};
 ghost use Rattle.nego_model.specs.Parts.{plain_outcome};
@@ -11,7 +11,7 @@ ghost use Rattle.nego_cli.specs.SoloReading.{value_in, outcome_in, form_among, f
 
 use nego_base::{AgentId, AgentSet, AtomId, AtomSet, Memory, Seq, Text};
 use nego_data::cases::{Case, Set, Term};
-use nego_data::{Sizes, Table, table_of};
+use nego_data::{Sizes, Table, TableFault, table_of};
 use nego_model::{AtomPart, Diagram, OutcomePart, Parts};
 use nego_reader::{PAgent, PAtom, PCase, POut, PTerm, Parsed};
 use std::alloc::Global;
@@ -194,11 +194,16 @@ fn outcome_part(
 /// The table of these cases.
 fn table(alloc: Global, sizes: &Sizes, cases: &[PCase]) -> Result<Table, Memory>
     requires one { length sizes.now ≡ 1 }
+    requires some { map value_in (map case_content cases.now) ≢ [] }
     requires fit { All (λ value. IfSome value (λ n. n < slice_index sizes.now 0)) (map value_in (map case_content cases.now)) }
     ensures { IfOk result (λ table. table ≡ rows_of sizes.now (map case_of (map value_in (map case_content cases.now)))) }
 {
     let cases = cases_of(alloc, cases)?;
-    table_of(alloc, sizes, party(), cases.as_slice()).map_err(|_| Memory)
+    match table_of(alloc, sizes, party(), cases.as_slice()) {
+        Ok(table) => Ok(table),
+        Err(TableFault::Memory) => Err(Memory),
+        Err(TableFault::NotTotal(_)) => unreachable!(),
+    }
 }
 
 /// The cases.

@@ -4,7 +4,8 @@ use Rattle.nego_base.specs.declared.memory.Memory.{Memory}
 use Rattle.nego_model.specs.Diagram.{PlainDiagram, nexts_of}
 use Rattle.nego_model.specs.Summary.{Tells}
 use Rattle.nego_expr.specs.Work.{PlainWork}
-use Rattle.nego_expr.specs.Plain.{IsFirstUndetermined, WorkFaultHolds}
+use Rattle.nego_model.specs.Undetermined.{IsFirstUndetermined}
+use Rattle.nego_expr.specs.Plain.{WorkFaultHolds}
 use Rattle.nego_expr.specs.SummaryText.{plain_summary}
 use Rattle.nego_cli.specs.declared.order.Reduction.{Reduction}
 use Rattle.nego_cli.specs.NarrowWork.{IsNarrow}
