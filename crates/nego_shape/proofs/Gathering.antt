@@ -1,0 +1,128 @@
+-- Sets of agents and atoms that are gathered name by name.
+use Rattle.std.proofs.Common.{◌≡◌, ℕ, ◌+◌, ◌<◌, ◌≤◌, ◌==◌, ◌||◌, ◌&&◌, Bool, true, false, List, [], ◌∷◌, length, map, take, get_or, refl, sym, ap, subst, ◌∙◌, arith, ltb-true, lt-ltb, eqb-true}
+use Rattle.std.proofs.lemmas.Bool.{and_parts, and_from}
+use Rattle.std.proofs.lemmas.List.{length-map, get_or-map}
+use Rattle.std.proofs.lemmas.List.Elements.{All-weaker}
+use Rattle.std.proofs.lemmas.List.Folds.{list_any_more}
+use Rattle.std.specs.List.{All, list_any, range_with_len}
+use Rattle.nego_base.specs.declared.line.Word.{Word}
+use Rattle.nego_base.specs.Members.{is_in, with_member, IsRisingBelow}
+use Rattle.nego_base.proofs.Members.{is_in-with, is_in-filter, is_in-range_zero, same_below, All-members}
+use Rattle.nego_base.proofs.BoolLaws.{same_tests, passing_item}
+use Rattle.nego_reader.specs.declared.parsed.PNext.{PNext}
+use Rattle.nego_reader.specs.Content.{Content, OutContent, next_content, texts}
+use Rattle.nego_shape.specs.Naming.{place_of, places_of, agent_names, atom_names, parties_in, leads_to, next_atoms}
+use Rattle.nego_shape.specs.Shaped.{IsDeclared}
+use Rattle.nego_shape.proofs.Places.{named_place, parties_in-rises, in_parties_in, next_atoms-rises}
+use Rattle.nego_shape.proofs.Sought.{places-any}
+
+or_swap : (s t : Bool) → (s || t) ≡ (t || s)
+or_swap true true = refl
+or_swap true false = refl
+or_swap false true = refl
+or_swap false false = refl
+
+or_none : (s t : Bool) → t ≡ false → s ≡ (s || t)
+or_none true t h = refl
+or_none false t h = sym h
+
+and_true : (s t : Bool) → t ≡ true → s ≡ (s && t)
+and_true true t h = sym h
+and_true false t h = refl
+
+and_false : (s t : Bool) → t ≡ false → (s && t) ≡ false
+and_false true t h = h
+and_false false t h = refl
+
+-- whether some line leads to an atom, line by line of the text
+list_any-next : (c : Content) (a m : ℕ) (nexts : List PNext) → list_any (leads_to c a m) (map next_content nexts) ≡ list_any (λ n. leads_to c a m (next_content n)) nexts
+list_any-next c a m [] = refl
+list_any-next c a m (next ∷ nexts) = ap (λ b. leads_to c a m (next_content next) || b) (list_any-next c a m nexts)
+
+-- what holds of all mapped items holds of what one is mapped to
+pub at_item : {X Y : Type 0} (P : Y → Type 0) (f : X → Y) (xs : List X) (i : ℕ) (x : X) → All P (map f xs) → i < length xs → x ≡ get_or xs i x → P (f x)
+at_item P f xs i x h below is =
+    let long : length (map f xs) ≡ length xs = length-map xs f in
+    subst P (get_or-map f xs i x (f x) below ∙ ap f (sym is)) (h i (f x) (omega (arith, long, below)))
+
+-- one more place
+pub one_more_place : (all : List (List ℕ)) (words : List Word) (i : ℕ) (word : Word) (set : List ℕ) (place : ℕ) → i < length words → word ≡ get_or words i word → place ≡ place_of word.text all →
+    ((a : ℕ) → is_in a set ≡ is_in a (places_of (texts (take i words)) all)) → (a : ℕ) → is_in a (with_member place set) ≡ is_in a (places_of (texts (take (i + 1) words)) all)
+one_more_place all words i word set place below is at so_far a =
+    is_in-with a place set
+    ∙ (ap (λ b. (place == a) || b) (so_far a ∙ places-any all a (take i words))
+    ∙ (or_swap (place == a) (list_any (λ w. place_of w.text all == a) (take i words))
+    ∙ (ap (λ n. list_any (λ w. place_of w.text all == a) (take i words) || (n == a)) (at ∙ ap (λ (w : Word). place_of w.text all) is)
+    ∙ sym (places-any all a (take (i + 1) words) ∙ list_any_more (λ w. place_of w.text all == a) words i word below))))
+
+-- the set of the places of declared agents is their parties
+pub set_is_parties : (c : Content) (width : ℕ) (names : List (List ℕ)) (set : List ℕ) → IsRisingBelow width set → length c.agents ≤ width → length (agent_names c) ≡ length c.agents →
+    All (IsDeclared (agent_names c)) names → ((a : ℕ) → is_in a set ≡ is_in a (places_of names (agent_names c))) → set ≡ parties_in c names
+set_is_parties c width names set rises few count declared same =
+    let there = parties_in-rises c names in
+    same_below width set (parties_in c names) rises
+    (record { rising = there.rising; below = All-weaker (λ a. a < length c.agents) (λ a. a < width) (λ a h. omega (arith, h, few)) (parties_in c names) there.below })
+    (λ a h. same_tests (is_in a set) (is_in a (parties_in c names))
+    (λ m.
+    let k : is_in a (places_of names (agent_names c)) ≡ true = sym (same a) ∙ m in
+    let named = named_place (IsDeclared (agent_names c)) a names (agent_names c) declared k in
+    in_parties_in c a names (subst (λ n. a < n) count (subst (λ b. b < length (agent_names c)) named.1 named.2)) k)
+    (λ m. same a ∙ (and_parts (is_in a (places_of names (agent_names c))) (is_in a (range_with_len 0 (length c.agents)))
+    (sym (is_in-filter (λ x. is_in x (places_of names (agent_names c))) a (range_with_len 0 (length c.agents))) ∙ m)).0))
+
+-- a next line on which the agent stands
+pub one_more_line : (c : Content) (a : ℕ) (nexts : List PNext) (i : ℕ) (next : PNext) (set : List ℕ) (place : ℕ) (here : Bool) → i < length nexts → next ≡ get_or nexts i next →
+    here ≡ list_any (λ name. place_of name.text (agent_names c) == a) next.agents → here ≡ true → place ≡ place_of next.atom.text (atom_names c) →
+    ((m : ℕ) → is_in m set ≡ list_any (leads_to c a m) (map next_content (take i nexts))) → (m : ℕ) → is_in m (with_member place set) ≡ list_any (leads_to c a m) (map next_content (take (i + 1) nexts))
+one_more_line c a nexts i next set place here below is stands true_here at so_far m =
+    is_in-with m place set
+    ∙ (ap (λ b. (place == m) || b) (so_far m ∙ list_any-next c a m (take i nexts))
+    ∙ (or_swap (place == m) (list_any (λ n. leads_to c a m (next_content n)) (take i nexts))
+    ∙ (ap (λ b. list_any (λ n. leads_to c a m (next_content n)) (take i nexts) || b) line
+    ∙ sym (list_any-next c a m (take (i + 1) nexts) ∙ list_any_more (λ n. leads_to c a m (next_content n)) nexts i next below))))
+  where
+    on : is_in a (places_of (texts next.agents) (agent_names c)) ≡ true
+    on = places-any (agent_names c) a next.agents ∙ (sym stands ∙ true_here)
+
+    line : (place == m) ≡ leads_to c a m (next_content (get_or nexts i next))
+    line =
+        ap (λ n. n == m) at
+        ∙ (and_true (place_of next.atom.text (atom_names c) == m) (is_in a (places_of (texts next.agents) (agent_names c))) on
+        ∙ ap (λ (n : PNext). leads_to c a m (next_content n)) is)
+
+-- a next line on which the agent doesn't stand
+pub no_more_line : (c : Content) (a : ℕ) (nexts : List PNext) (i : ℕ) (next : PNext) (set : List ℕ) (here : Bool) → i < length nexts → next ≡ get_or nexts i next →
+    here ≡ list_any (λ name. place_of name.text (agent_names c) == a) next.agents → here ≡ false →
+    ((m : ℕ) → is_in m set ≡ list_any (leads_to c a m) (map next_content (take i nexts))) → (m : ℕ) → is_in m set ≡ list_any (leads_to c a m) (map next_content (take (i + 1) nexts))
+no_more_line c a nexts i next set here below is stands false_here so_far m =
+    so_far m ∙ (list_any-next c a m (take i nexts)
+    ∙ (or_none (list_any (λ n. leads_to c a m (next_content n)) (take i nexts)) (leads_to c a m (next_content (get_or nexts i next))) line
+    ∙ sym (list_any-next c a m (take (i + 1) nexts) ∙ list_any_more (λ n. leads_to c a m (next_content n)) nexts i next below)))
+  where
+    off : is_in a (places_of (texts next.agents) (agent_names c)) ≡ false
+    off = places-any (agent_names c) a next.agents ∙ (sym stands ∙ false_here)
+
+    line : leads_to c a m (next_content (get_or nexts i next)) ≡ false
+    line = ap (λ (n : PNext). leads_to c a m (next_content n)) (sym is) ∙ and_false (place_of next.atom.text (atom_names c) == m) (is_in a (places_of (texts next.agents) (agent_names c))) off
+
+-- the set of the atoms on whose next lines the agent stands
+pub set_is_next : (c : Content) (width a : ℕ) (out : OutContent) (set : List ℕ) → IsRisingBelow width set → length c.atoms ≤ width → length (atom_names c) ≡ length c.atoms →
+    All (λ next. IsDeclared (atom_names c) next.atom) out.nexts → ((m : ℕ) → is_in m set ≡ list_any (leads_to c a m) out.nexts) → set ≡ next_atoms c out a
+set_is_next c width a out set rises few count declared same =
+    same_below width set (next_atoms c out a) rises (record { rising = next_atoms-rises c out a; below = All-members-below })
+    (λ m h. same_tests (is_in m set) (is_in m (next_atoms c out a))
+    (λ q.
+    let k : list_any (leads_to c a m) out.nexts ≡ true = sym (same m) ∙ q in
+    let line = passing_item (leads_to c a m) (λ next. IsDeclared (atom_names c) next.atom) out.nexts k declared in
+    let here = eqb-true (place_of line.0.atom (atom_names c)) m (and_parts (place_of line.0.atom (atom_names c) == m) (is_in a (places_of line.0.agents (agent_names c))) line.1).0 in
+    let below : m < length c.atoms = subst (λ n. m < n) count (subst (λ b. b < length (atom_names c)) here line.2) in
+    is_in-filter (λ n. list_any (leads_to c a n) out.nexts) m (range_with_len 0 (length c.atoms))
+    ∙ and_from (list_any (leads_to c a m) out.nexts) (is_in m (range_with_len 0 (length c.atoms))) k (is_in-range_zero m (length c.atoms) ∙ lt-ltb m (length c.atoms) below))
+    (λ q. same m ∙ (parts m q).0))
+  where
+    parts : (m : ℕ) → is_in m (next_atoms c out a) ≡ true → (list_any (leads_to c a m) out.nexts ≡ true) × (is_in m (range_with_len 0 (length c.atoms)) ≡ true)
+    parts m q = and_parts (list_any (leads_to c a m) out.nexts) (is_in m (range_with_len 0 (length c.atoms))) (sym (is_in-filter (λ n. list_any (leads_to c a n) out.nexts) m (range_with_len 0 (length c.atoms))) ∙ q)
+
+    All-members-below : All (λ m. m < width) (next_atoms c out a)
+    All-members-below = All-members (λ m. m < width) (next_atoms c out a) (λ m q.
+        let l : m < length c.atoms = ltb-true m (length c.atoms) (sym (is_in-range_zero m (length c.atoms)) ∙ (parts m q).1) in omega (arith, l, few))

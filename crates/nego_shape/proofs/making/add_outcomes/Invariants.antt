@@ -1,0 +1,11 @@
+use Rattle.std.proofs.Common.{◌≡◌, ◌++◌, length, map, take}
+use Rattle.nego_model.specs.Parts.{plain_outcome}
+use Rattle.nego_reader.specs.Content.{content_of, out_content}
+use Rattle.nego_shape.specs.Naming.{outcome_in}
+use Rattle.nego_shape.specs.Made.{placed_at}
+use Rattle.nego_shape.proofs.making.add_outcomes.Given as goal
+
+abbrev pub invariant-loop-out : goal.invariant-loop-out
+invariant-loop-out l =
+    map (plain_outcome (length l.p.agents)) l.outcomes
+    ≡ map (plain_outcome (length l.p.agents)) l.initial.outcomes ++ map (λ out. outcome_in (content_of l.p) (placed_at l.n (out_content out))) (take l.out-index l.out-items)

@@ -1,0 +1,10 @@
+use Rattle.std.proofs.Common.{◌≡◌, ◌≤◌, ◌+◌, ◌++◌, length, map, drop}
+use Rattle.nego_reader.specs.Content.{content_of, atom_content}
+use Rattle.nego_shape.specs.Naming.{outs_from}
+use Rattle.nego_shape.specs.Made.{parts_from}
+use Rattle.nego_shape.proofs.making.atoms_of.Given as goal
+
+abbrev pub invariant-loop-atom : goal.invariant-loop-atom
+invariant-loop-atom l =
+    (l.parts ++ parts_from (content_of l.p) l.start (map atom_content (drop l.atom-index l.atom-items)) ≡ parts_from (content_of l.p) 0 (map atom_content l.p.atoms))
+    × (l.start + length (outs_from l.atom-index (map atom_content (drop l.atom-index l.atom-items))) ≤ 256)

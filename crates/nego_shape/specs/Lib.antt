@@ -1,0 +1,11 @@
+pub mod Ordering
+pub mod Answers
+pub mod Walks
+pub mod Naming
+pub mod Shaped
+pub mod Made
+pub mod Laws
+pub mod ContentLaws
+pub mod Firsts
+pub mod Faults
+pub mod Answer
