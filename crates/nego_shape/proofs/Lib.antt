@@ -1,26 +1,30 @@
-mod Undetermined
 mod EdgeSteps
-mod ListPlaces
-mod PlacedAtoms
 mod Forward
-mod Walking
+mod ListPlaces
+mod OneCycle
+mod OneOrder
+mod PlacedAtoms
 mod Turning
-pub mod Places
+pub mod Undetermined
+mod Walking
+pub mod BrokenLaws
+pub mod FirstLaws
+pub mod Gathering
+pub mod Misses
+pub mod OutNames
 pub mod Outs
+pub mod PartsMade
+pub mod Places
 pub mod ShapedCases
 pub mod ShapedDiagrams
-mod OneOrder
-mod OneCycle
-pub mod Sought
-pub mod Gathering
 pub mod SizesFit
-pub mod PartsMade
+pub mod Sought
+pub mod SoundCases
+pub mod SoundDeclared
+pub mod SoundNames
+pub mod SoundPlaces
+pub mod SoundRules
+pub mod SoundShape
 pub mod SpelledNames
-pub mod FirstLaws
-pub mod OutNames
-pub mod BrokenLaws
-pub mod NoFault
-pub mod NamedOnce
-pub mod AllDeclared
-pub mod SizesSmall
-pub mod ShapedTexts
+pub mod TotalLaws
+pub mod JointLaws

@@ -1,7 +1,7 @@
 -- The first fault of shape of a text. Each kind of fault is looked for in the whole text, in its order, before the next
 -- kind is.
 use Rattle.std.specs.Prelude.{ℕ, ◌+◌, ◌*◌, Bool, false, nat_lt, nat_le, ◌==◌, ◌||◌, ◌&&◌, not, if◌then◌else◌, position, List, [], ◌∷◌, ◌++◌, length, map, take, slice_get, unwrap_or, Option, Some, None}
-use Rattle.std.specs.List.{list_any}
+use Rattle.std.specs.List.{list_any, range_with_len}
 use Rattle.std.specs.Option.{option_or, option_map}
 use Rattle.std.specs.Str.{bytes_eq}
 use Rattle.nego_base.specs.declared.line.Word.{Word}
@@ -25,7 +25,12 @@ use Rattle.nego_shape.specs.declared.fault.ShapeKind.TheVariants as kinds
 use Rattle.nego_shape.specs.declared.fault.ShapeFault.{ShapeFault}
 use Rattle.nego_shape.specs.declared.checks.outcomes.Rule.{Rule}
 use Rattle.nego_shape.specs.declared.checks.outcomes.Rule.TheVariants as rules
+use Rattle.nego_data.specs.declared.cases.Case.{Case}
+use Rattle.nego_data.specs.Data.{data_count, split}
+use Rattle.nego_data.specs.Cases.{covers}
+use Rattle.nego_reader.specs.Content.{content_of, out_content}
 use Rattle.nego_shape.specs.Firsts.{first_among, first_numbered}
+use Rattle.nego_shape.specs.Naming.{sizes_in, cases_in}
 
 -- a fault on a line
 abbrev pub fault_on : ℕ → ShapeKind → ShapeFault
@@ -387,6 +392,34 @@ size_fault p = option_or (zero_size p.agents) (option_or (size_too_large p.agent
 abbrev pub inner_fault : Parsed → Option ShapeFault
 inner_fault p = option_or (party_fault p) (option_or (next_fault p) (option_or (broken rules.NotParty p) (option_or (size_fault p) (broken rules.ValueTooLarge p))))
 
+-- the first fault of shape, but that of cases which leave joint data uncovered
+abbrev pub form_fault : Parsed → Option ShapeFault
+form_fault p = option_or (no_agent p.agents) (option_or (too_many p) (option_or (twice p) (option_or (unknown p) (inner_fault p))))
+
+-- ---- joint data that no case covers
+
+-- the least joint data that no case covers
+abbrev pub first_uncovered : List ℕ → List Case → Option ℕ
+first_uncovered sizes cases = position (λ d. not (list_any (λ case. covers case (split sizes d)) cases)) (range_with_len 0 (data_count sizes))
+
+-- the cases of the outcome of this number leave joint data uncovered
+abbrev pub not_total_at : Parsed → ℕ → POut → Option ShapeFault
+not_total_at p o out =
+    option_map (λ d. fault_on out.name.line (kinds.NotTotal (record { 0 = o }) d)) (first_uncovered (sizes_in (content_of p)) (cases_in (content_of p) (out_content out)))
+
+-- the first of the outcomes, numbered from o on, whose cases leave joint data uncovered
+abbrev pub not_total_among : Parsed → ℕ → List POut → Option ShapeFault
+not_total_among p o outs = first_numbered (λ i out. not_total_at p (o + i) out) 0 outs
+
+-- the same of the outcomes of atoms, numbered from o on
+unfoldable pub not_total_from : Parsed → ℕ → List PAtom → Option ShapeFault
+not_total_from p o [] = None
+not_total_from p o (atom ∷ atoms) = option_or (not_total_among p o atom.outs) (not_total_from p (o + length atom.outs) atoms)
+
+-- the first outcome whose cases leave joint data uncovered
+abbrev pub not_total : Parsed → Option ShapeFault
+not_total p = not_total_from p 0 p.atoms
+
 -- The first fault of shape: of the kinds in their order, each looked for in the whole text.
 abbrev pub shape_fault : Parsed → Option ShapeFault
-shape_fault p = option_or (no_agent p.agents) (option_or (too_many p) (option_or (twice p) (option_or (unknown p) (inner_fault p))))
+shape_fault p = option_or (form_fault p) (not_total p)

@@ -93,13 +93,12 @@ IsSent c nexts a = IsTrue (list_any (λ next. is_in a (places_of next.agents (ag
 abbrev pub IsAllCovered : Content → OutContent → Type 0
 IsAllCovered c out = (d : ℕ) → d < data_count (sizes_in c) → IsCovered (sizes_in c) (cases_in c out) d
 
--- The content has no fault of shape. There is an agent; agents, atoms and outcomes are not too many; no name stands
+-- The content has the form of a diagram. There is an agent; agents, atoms and outcomes are not too many; no name stands
 -- twice; all names are declared; each atom has a party and an outcome; every agent is a party of the first and of the
 -- last atom; each party of another atom than the last stands on some next line of each outcome; who stands on a next
 -- line is a party of the outcome's atom and of the next atom; the last atom has no next line; the agents of cases are
--- parties; sizes are within their limits; constants that are assigned are below the size; the cases of each outcome
--- cover all joint data.
-pub record IsShaped (c : Content) : Type 0 where
+-- parties; sizes are within their limits; constants that are assigned are below the size.
+pub record IsFormed (c : Content) : Type 0 where
   pub some_agent : 0 < length c.agents
   pub few_agents : length c.agents ≤ 16
   pub few_atoms : length c.atoms ≤ 64
@@ -116,6 +115,10 @@ pub record IsShaped (c : Content) : Type 0 where
   pub parties_alone : All (λ placed. All (λ case. All (IsNamedParty c placed.atom) (case_names case)) placed.out.cases) (all_outs c)
   pub sizes : AreSizes (sizes_in c)
   pub below : All (λ placed. All (AssignsBelow (sizes_in c)) (cases_in c placed.out)) (all_outs c)
+
+-- The content has no fault of shape: it has the form of a diagram, and the cases of each outcome cover all joint data.
+pub record IsShaped (c : Content) : Type 0 where
+  pub form : IsFormed c
   pub covered : All (λ placed. IsAllCovered c placed.out) (all_outs c)
 
 -- The names of agents, atoms and outcomes are names by their bytes, as in the content of what a text spells.

@@ -49,6 +49,7 @@ fn go_back(d: &Diagram, placed: AtomSet, n: AtomId) -> AtomId
     ensures behind { IsLeastBehind (negotiation_of d.now) placed n.0 result.0 }
     ensures bound { result.0 < 64 }
 {
+    let _count = d.atoms();
     least_behind(d, placed, n).unwrap()
 }
 

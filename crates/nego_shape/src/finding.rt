@@ -1,8 +1,7 @@
 //! The first fault of shape.
 
-ghost use Rattle.std.specs.Prelude.{◌≡◌, ◌≤◌, length, None, IfOk, IfErr};
-ghost use Rattle.nego_shape.specs.Faults.{out_names, twice, unknown, party_fault, next_fault, size_fault, inner_fault, shape_fault};
-ghost use Rattle.nego_shape.specs.Answer.{HasCause};
+ghost use Rattle.std.specs.Prelude.{◌≡◌, ◌≤◌, length, IfOk};
+ghost use Rattle.nego_shape.specs.Faults.{out_names, twice, unknown, party_fault, next_fault, size_fault, inner_fault, form_fault};
 
 use crate::checks::counts::{no_agent, too_many};
 use crate::checks::outcomes::{Rule, broken};
@@ -10,7 +9,7 @@ use crate::checks::parties::{first_lacks, last_lacks, no_outcome, no_party};
 use crate::checks::sizes::{joint_too_large, size_too_large, zero_size};
 use crate::checks::twice::twice_in;
 use crate::checks::unknown::unknown_in;
-use crate::fault::{ShapeAnswer, ShapeFault, ShapeKind};
+use crate::fault::{ShapeFault, ShapeKind};
 use nego_base::{Memory, Text};
 use nego_reader::Parsed;
 use std::alloc::Global;
@@ -93,9 +92,9 @@ fn inner_fault(p: &Parsed) -> Option<ShapeFault>
         .or_else(|| broken(Rule::ValueTooLarge, p))
 }
 
-/// The first fault of shape.
-fn shape_fault(alloc: Global, p: &Parsed) -> Result<Option<ShapeFault>, Memory>
-    ensures { IfOk result (λ fault. fault ≡ shape_fault p.now) }
+/// The first fault of shape, but that of cases which leave joint data uncovered.
+pub(crate) fn form_fault(alloc: Global, p: &Parsed) -> Result<Option<ShapeFault>, Memory>
+    ensures { IfOk result (λ fault. fault ≡ form_fault p.now) }
 {
     if let Some(fault) = no_agent(p.agents.as_slice()) {
         return Ok(Some(fault));
@@ -110,15 +109,4 @@ fn shape_fault(alloc: Global, p: &Parsed) -> Result<Option<ShapeFault>, Memory>
         return Ok(Some(fault));
     }
     Ok(inner_fault(p))
-}
-
-/// That the text has no fault of shape, but that a case of an outcome may leave joint data uncovered.
-pub fn find_fault(alloc: Global, p: &Parsed) -> Result<(), ShapeAnswer>
-    ensures sound { IfOk result (λ _. shape_fault p.now ≡ None) }
-    ensures fault { IfErr result (λ e. HasCause e p.now) }
-{
-    match shape_fault(alloc, p)? {
-        None => Ok(()),
-        Some(fault) => Err(ShapeAnswer::Off(fault)),
-    }
 }

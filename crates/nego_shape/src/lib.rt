@@ -1,5 +1,5 @@
-//! The shape of diagrams: the first fault of shape of a text's value, the diagram that a value without one is, whether a
-//! diagram is deterministic, and an order of its atoms or a cycle.
+//! The shape of diagrams: the diagram that a text's value is, or its first fault of shape; whether a diagram is
+//! deterministic; and an order of its atoms, or a cycle.
 #![tactic(auto)]
 
 mod answer;
@@ -14,13 +14,15 @@ pub mod laws;
 mod making;
 mod ordering;
 mod placing;
+mod shaping;
 #[cfg(test)]
 mod tests;
+mod totality;
 
 pub use answer::Order;
 pub use choices::determined;
 pub use contents::{shaped_contents_are_diagrams, spelled_words_are_names};
 pub use fault::{Many, ShapeAnswer, ShapeFault, ShapeKind};
-pub use finding::find_fault;
 pub use making::diagram;
 pub use ordering::order;
+pub use shaping::shape;

@@ -7,7 +7,7 @@ ghost use Rattle.nego_data.specs.Cases.{rows_of};
 ghost use Rattle.nego_model.specs.Parts.{plain_outcome};
 ghost use Rattle.nego_reader.specs.Content.{content_of, atom_content, out_content, next_content, case_content, test_content, set_content, right_content, term_content, texts};
 ghost use Rattle.nego_shape.specs.Naming.{place_of, agent_names, atom_names, sizes_in, all_outs, parties_in, next_atoms, operand_in, test_in, term_in, set_in, case_in, cases_in, outcome_in, diagram_in};
-ghost use Rattle.nego_shape.specs.Shaped.{IsDeclared, IsShaped, HasNameWords};
+ghost use Rattle.nego_shape.specs.Shaped.{IsDeclared, IsAllCovered, IsFormed, HasNameWords};
 ghost use Rattle.nego_shape.specs.Made.{placed_at, outcomes_at, part_in, parts_from};
 
 use nego_base::{AgentId, AgentSet, AtomId, AtomSet, Memory, Seq, Text, Word};
@@ -19,7 +19,8 @@ use std::alloc::Global;
 
 /// The diagram that the text is. It has no fault of shape, and its words are names, as those of a text that was read.
 pub fn diagram(alloc: Global, p: &Parsed) -> Result<Diagram, Memory>
-    requires shaped { IsShaped (content_of p.now) }
+    requires shaped { IsFormed (content_of p.now) }
+    requires covered { All (λ placed. IsAllCovered (content_of p.now) placed.out) (all_outs (content_of p.now)) }
     requires named { HasNameWords (content_of p.now) }
     ensures { IfOk result (λ d. d ≡ diagram_in (content_of p.now)) }
 {
@@ -49,8 +50,8 @@ fn names_of(alloc: Global, p: &Parsed) -> Result<Seq<Text>, Memory>
 }
 
 /// The sizes of the agents' data.
-fn sizes_of(alloc: Global, p: &Parsed) -> Result<Sizes, Memory>
-    requires { IsShaped (content_of p.now) }
+pub(crate) fn sizes_of(alloc: Global, p: &Parsed) -> Result<Sizes, Memory>
+    requires { IsFormed (content_of p.now) }
     ensures { IfOk result (λ sizes. sizes ≡ sizes_in (content_of p.now)) }
 {
     let sizes = numbers_of(alloc, p)?;
@@ -69,7 +70,7 @@ fn numbers_of(alloc: Global, p: &Parsed) -> Result<Seq<u32>, Memory>
 
 /// The atoms; the outcomes of each have the numbers behind those of the atoms before.
 fn atoms_of(alloc: Global, p: &Parsed) -> Result<Seq<AtomPart>, Memory>
-    requires { IsShaped (content_of p.now) }
+    requires { IsFormed (content_of p.now) }
     ensures { IfOk result (λ parts. parts ≡ parts_from (content_of p.now) 0 (map atom_content p.now.atoms)) }
 {
     let mut parts = Seq::new(alloc);
@@ -83,7 +84,7 @@ fn atoms_of(alloc: Global, p: &Parsed) -> Result<Seq<AtomPart>, Memory>
 
 /// The atom, whose outcomes begin with this number.
 fn atom_part(alloc: Global, p: &Parsed, atom: &PAtom, start: u32) -> Result<AtomPart, Memory>
-    requires shaped { IsShaped (content_of p.now) }
+    requires shaped { IsFormed (content_of p.now) }
     requires declared { All (IsDeclared (agent_names (content_of p.now))) (texts atom.now.parties) }
     requires few { length atom.now.outs ≤ 256 }
     ensures { IfOk result (λ part. part ≡ part_in (content_of p.now) start (atom_content atom.now)) }
@@ -98,7 +99,8 @@ fn atom_part(alloc: Global, p: &Parsed, atom: &PAtom, start: u32) -> Result<Atom
 
 /// The outcomes of all atoms.
 fn outcomes_of(alloc: Global, p: &Parsed, sizes: &Sizes) -> Result<Seq<OutcomePart>, Memory>
-    requires shaped { IsShaped (content_of p.now) }
+    requires shaped { IsFormed (content_of p.now) }
+    requires covered { All (λ placed. IsAllCovered (content_of p.now) placed.out) (all_outs (content_of p.now)) }
     requires sizes { sizes.now ≡ sizes_in (content_of p.now) }
     ensures { IfOk result (λ parts. map (plain_outcome (length p.now.agents)) parts ≡ map (outcome_in (content_of p.now)) (all_outs (content_of p.now))) }
 {
@@ -117,7 +119,8 @@ fn add_outcomes(
     n: usize,
     outcomes: &mut Seq<OutcomePart>,
 ) -> Result<(), Memory>
-    requires shaped { IsShaped (content_of p.now) }
+    requires shaped { IsFormed (content_of p.now) }
+    requires covered { All (λ placed. IsAllCovered (content_of p.now) placed.out) (all_outs (content_of p.now)) }
     requires sizes { sizes.now ≡ sizes_in (content_of p.now) }
     requires atom { n < length p.now.atoms }
     ensures { OnOk result (map (plain_outcome (length p.now.agents)) outcomes.new ≡ map (plain_outcome (length p.now.agents)) outcomes.old ++ outcomes_at (content_of p.now) n) }
@@ -136,7 +139,8 @@ fn outcome_part(
     n: usize,
     out: &POut,
 ) -> Result<OutcomePart, Memory>
-    requires shaped { IsShaped (content_of p.now) }
+    requires shaped { IsFormed (content_of p.now) }
+    requires covered { All (λ placed. IsAllCovered (content_of p.now) placed.out) (all_outs (content_of p.now)) }
     requires sizes { sizes.now ≡ sizes_in (content_of p.now) }
     requires atom { n < length p.now.atoms }
     requires out { Contains (all_outs (content_of p.now)) (placed_at n (out_content out.now)) }
@@ -152,7 +156,7 @@ fn outcome_part(
 
 /// For each agent its next atoms after the outcome.
 fn next_sets(p: &Parsed, n: usize, out: &POut) -> [AtomSet; 16]
-    requires shaped { IsShaped (content_of p.now) }
+    requires shaped { IsFormed (content_of p.now) }
     requires out { Contains (all_outs (content_of p.now)) (placed_at n (out_content out.now)) }
     ensures { take (length p.now.agents) result ≡ map (next_atoms (content_of p.now) (out_content out.now)) (range_with_len 0 (length p.now.agents)) }
 {
@@ -165,7 +169,7 @@ fn next_sets(p: &Parsed, n: usize, out: &POut) -> [AtomSet; 16]
 
 /// The next atoms of the agent after the outcome.
 fn next_set(p: &Parsed, n: usize, out: &POut, a: u32) -> AtomSet
-    requires shaped { IsShaped (content_of p.now) }
+    requires shaped { IsFormed (content_of p.now) }
     requires out { Contains (all_outs (content_of p.now)) (placed_at n (out_content out.now)) }
     ensures { result ≡ next_atoms (content_of p.now) (out_content out.now) a }
 {
@@ -180,15 +184,15 @@ fn next_set(p: &Parsed, n: usize, out: &POut, a: u32) -> AtomSet
 
 /// Whether the agent stands on the next line.
 fn stands(p: &Parsed, next: &PNext, a: u32) -> bool
-    requires { IsShaped (content_of p.now) }
+    requires { IsFormed (content_of p.now) }
     ensures { result ≡ list_any (λ name. place_of name.text (agent_names (content_of p.now)) == a) next.now.agents }
 {
     next.agents.iter().any(|name| agent_place(p, name) == a)
 }
 
 /// The agents of these names.
-fn party_set(p: &Parsed, names: &[Word]) -> AgentSet
-    requires shaped { IsShaped (content_of p.now) }
+pub(crate) fn party_set(p: &Parsed, names: &[Word]) -> AgentSet
+    requires shaped { IsFormed (content_of p.now) }
     requires declared { All (IsDeclared (agent_names (content_of p.now))) (texts names.now) }
     ensures { result ≡ parties_in (content_of p.now) (texts names.now) }
 {
@@ -201,7 +205,8 @@ fn party_set(p: &Parsed, names: &[Word]) -> AgentSet
 
 /// The table of the outcome's cases.
 fn table(alloc: Global, p: &Parsed, sizes: &Sizes, n: usize, out: &POut) -> Result<Table, Memory>
-    requires shaped { IsShaped (content_of p.now) }
+    requires shaped { IsFormed (content_of p.now) }
+    requires covered { All (λ placed. IsAllCovered (content_of p.now) placed.out) (all_outs (content_of p.now)) }
     requires sizes { sizes.now ≡ sizes_in (content_of p.now) }
     requires atom { n < length p.now.atoms }
     requires out { Contains (all_outs (content_of p.now)) (placed_at n (out_content out.now)) }
@@ -217,8 +222,8 @@ fn table(alloc: Global, p: &Parsed, sizes: &Sizes, n: usize, out: &POut) -> Resu
 }
 
 /// The cases, with agents' numbers.
-fn cases_of(alloc: Global, p: &Parsed, cases: &[PCase]) -> Result<Seq<Case>, Memory>
-    requires { IsShaped (content_of p.now) }
+pub(crate) fn cases_of(alloc: Global, p: &Parsed, cases: &[PCase]) -> Result<Seq<Case>, Memory>
+    requires { IsFormed (content_of p.now) }
     ensures { IfOk result (λ made. made ≡ map (λ case. case_in (content_of p.now) (case_content case)) cases.now) }
 {
     let mut made = Seq::new(alloc);
@@ -233,7 +238,7 @@ fn cases_of(alloc: Global, p: &Parsed, cases: &[PCase]) -> Result<Seq<Case>, Mem
 
 /// The comparisons.
 fn tests_of(alloc: Global, p: &Parsed, tests: &[PTest]) -> Result<Seq<Test>, Memory>
-    requires { IsShaped (content_of p.now) }
+    requires { IsFormed (content_of p.now) }
     ensures { IfOk result (λ made. made ≡ map (λ test. test_in (content_of p.now) (test_content test)) tests.now) }
 {
     let mut made = Seq::new(alloc);
@@ -244,7 +249,7 @@ fn tests_of(alloc: Global, p: &Parsed, tests: &[PTest]) -> Result<Seq<Test>, Mem
 }
 
 fn test_of(p: &Parsed, test: &PTest) -> Test
-    requires { IsShaped (content_of p.now) }
+    requires { IsFormed (content_of p.now) }
     ensures { result ≡ test_in (content_of p.now) (test_content test.now) }
 {
     Test {
@@ -255,7 +260,7 @@ fn test_of(p: &Parsed, test: &PTest) -> Test
 }
 
 fn right_of(p: &Parsed, right: &PRight) -> Operand
-    requires { IsShaped (content_of p.now) }
+    requires { IsFormed (content_of p.now) }
     ensures { result ≡ operand_in (content_of p.now) (right_content right.now) }
 {
     match right {
@@ -266,7 +271,7 @@ fn right_of(p: &Parsed, right: &PRight) -> Operand
 
 /// The assignments.
 fn sets_of(alloc: Global, p: &Parsed, sets: &[PSet]) -> Result<Seq<Set>, Memory>
-    requires { IsShaped (content_of p.now) }
+    requires { IsFormed (content_of p.now) }
     ensures { IfOk result (λ made. made ≡ map (λ set. set_in (content_of p.now) (set_content set)) sets.now) }
 {
     let mut made = Seq::new(alloc);
@@ -277,7 +282,7 @@ fn sets_of(alloc: Global, p: &Parsed, sets: &[PSet]) -> Result<Seq<Set>, Memory>
 }
 
 fn set_of(p: &Parsed, set: &PSet) -> Set
-    requires { IsShaped (content_of p.now) }
+    requires { IsFormed (content_of p.now) }
     ensures { result ≡ set_in (content_of p.now) (set_content set.now) }
 {
     Set {
@@ -287,7 +292,7 @@ fn set_of(p: &Parsed, set: &PSet) -> Set
 }
 
 fn term_of(p: &Parsed, term: &PTerm) -> Term
-    requires { IsShaped (content_of p.now) }
+    requires { IsFormed (content_of p.now) }
     ensures { result ≡ term_in (content_of p.now) (term_content term.now) }
 {
     match term {
@@ -300,7 +305,7 @@ fn term_of(p: &Parsed, term: &PTerm) -> Term
 
 /// The number of the agent of this name, and the count of agents where there is none.
 fn agent_place(p: &Parsed, name: &Word) -> u32
-    requires { IsShaped (content_of p.now) }
+    requires { IsFormed (content_of p.now) }
     ensures { result ≡ place_of name.now.text (agent_names (content_of p.now)) }
 {
     agent_at(p, name).unwrap_or(p.agents.len()) as u32
@@ -314,7 +319,7 @@ fn agent_at(p: &Parsed, name: &Word) -> Option<usize>
 
 /// The number of the atom of this name, and the count of atoms where there is none.
 fn atom_place(p: &Parsed, name: &Word) -> u32
-    requires { IsShaped (content_of p.now) }
+    requires { IsFormed (content_of p.now) }
     ensures { result ≡ place_of name.now.text (atom_names (content_of p.now)) }
 {
     atom_at(p, name).unwrap_or(p.atoms.len()) as u32

@@ -49,11 +49,12 @@ fn next_ready(d: &Diagram, placed: AtomSet) -> Option<AtomId>
 
 /// Whether the atom can be placed.
 fn is_ready(d: &Diagram, placed: AtomSet, n: AtomId) -> bool
-    requires atom { n.0 < length d.now.atoms }
-    requires bound { n.0 < 64 }
+    requires { n.0 < length d.now.atoms }
     ensures yes { result ≡ true → IsReady (negotiation_of d.now) placed n.0 }
     ensures otherwise { result ≡ false → IsReady (negotiation_of d.now) placed n.0 → ⊥ }
+    ensures bound { n.0 < 64 }
 {
+    let _count = d.atoms();
     if placed.has(n) {
         return false;
     }
@@ -78,7 +79,7 @@ pub(crate) fn least_left(d: &Diagram, placed: AtomSet) -> Option<AtomId>
 pub(crate) fn least_behind(d: &Diagram, placed: AtomSet, n: AtomId) -> Option<AtomId>
     requires { n.0 < length d.now.atoms }
     ensures some { IfSome result (λ m. IsLeastBehind (negotiation_of d.now) placed n.0 m.0) }
-    ensures bound { IfSome result (λ m. m.0 < 64) }
+    ensures bound { IfSome result (λ m. m.0 < length d.now.atoms) }
     ensures none { IfNone result ((m : ℕ) → IsEdge (negotiation_of d.now) m n.0 → IsLeft (negotiation_of d.now) placed m → ⊥) }
 {
     let behind = before(d, n);

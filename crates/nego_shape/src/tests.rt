@@ -1,6 +1,6 @@
 //! Texts, and their first fault of shape.
 
-use crate::{ShapeAnswer, find_fault};
+use crate::finding::form_fault;
 use nego_reader::read_diagram;
 use std::alloc::Global;
 use std::process::Abort;
@@ -160,10 +160,9 @@ fn texts_have_their_first_fault(rt: HostRuntime) -> Result<(), Fail> {
 fn has_fault(rt: &impl Abort, alloc: Global, text: &[u8], want: &str) -> Result<(), Fail> {
     assert!(rt; text.len() < 2000);
     let parsed = read_diagram(alloc, text)?;
-    let told = match find_fault(alloc, &parsed) {
-        Ok(()) => format!(in alloc; "none")?,
-        Err(ShapeAnswer::Off(fault)) => format!(in alloc; "{fault:?}")?,
-        Err(ShapeAnswer::Memory) => format!(in alloc; "memory")?,
+    let told = match form_fault(alloc, &parsed)? {
+        None => format!(in alloc; "none")?,
+        Some(fault) => format!(in alloc; "{fault:?}")?,
     };
     assert!(rt; told.as_str() == want);
     Ok(())

@@ -77,6 +77,6 @@ unreachable-requires c =
     let d = c.in-Err-NotTotal.field-0-0 in
     let fault : IsFirstUncovered c.args.sizes.now c.as_slice-3.result.now d =
     subst (HasTableFault c.args.sizes.now c.as_slice-3.result.now) c.in-Err-NotTotal.field-0-is c.in-Err-NotTotal.ensures.err in
-    let all = All-contains (λ (placed : PlacedOut). IsAllCovered c0 placed.out) (all_outs c0) (placed_at c.args.n (out_content c.args.out.now)) c.requires.shaped.covered c.requires.out in
+    let all = All-contains (λ (placed : PlacedOut). IsAllCovered c0 placed.out) (all_outs c0) (placed_at c.args.n (out_content c.args.out.now)) c.requires.covered c.requires.out in
     fault.uncovered (subst (λ sizes. IsCovered sizes c.as_slice-3.result.now d) (sym c.requires.sizes) (subst (λ (cs : List Case). IsCovered (sizes_in c0) cs d) (sym cases)
     (all d (subst (λ sizes. d < data_count sizes) c.requires.sizes fault.below))))

@@ -6,7 +6,7 @@ use Rattle.nego_shape.proofs.placing.is_ready.Goals as goal
 pub returns-clause-yes : goal.returns-clause-yes
 returns-clause-yes c all = record {
   left = record {
-    atom = atom_from_below c.args.d.now c.args.n.0 c.requires.atom;
+    atom = atom_from_below c.args.d.now c.args.n.0 c.requires;
     unplaced = sym c.has.ensures.value ∙ c.if-has.false;
   };
   behind = λ m edge. all_in-member m c.before-2.result c.args.placed (sym c.within.ensures.value ∙ all) ((c.before-2.ensures m).1 edge);
