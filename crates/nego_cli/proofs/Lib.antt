@@ -5,11 +5,6 @@ pub mod NumberWords
 pub mod WordLaws
 pub mod Found
 pub mod Said
-pub mod Mapped
-pub mod SoloDiagrams
-pub mod SoloParts
-pub mod SoloContents
-pub mod SoloMaking
 pub mod NarrowWorks
 pub mod NarrowUses
 pub mod UsesLead
@@ -17,4 +12,7 @@ pub mod NarrowFresh
 pub mod LeastMerge
 pub mod CertificateLines
 pub mod OnlyMemory
+pub mod Told
 pub mod NarrowTests
+pub mod FormAtoms
+pub mod NamedPlaces

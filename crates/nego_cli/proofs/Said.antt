@@ -1,24 +1,32 @@
 -- What was found and put out is what the status says, and no other status could be.
-use Rattle.std.proofs.Common.{◌≡◌, ◌⊎◌, ℕ, List, [], refl, sym, ap, subst, ◌∙◌, inl, inr}
+use Rattle.std.proofs.Common.{◌≡◌, ◌⊎◌, ℕ, List, [], Option, Some, None, refl, sym, ap, subst, ◌∙◌, inl, inr}
+use Rattle.std.proofs.lemmas.Option.{same_Some}
 use Rattle.nego_io.specs.Outside.{WhereTold}
 use Rattle.nego_io.specs.Part.{Whole, reading}
+use Rattle.nego_model.specs.Negotiation.{IsDeterministic}
+use Rattle.nego_model.specs.Diagram.{PlainDiagram, negotiation_of}
+use Rattle.nego_model.specs.Undetermined.{IsFirstUndetermined}
 use Rattle.nego_reader.specs.declared.parsed.Parsed.{Parsed}
 use Rattle.nego_reader.specs.Spelling.{Spells}
-use Rattle.nego_reader.specs.Content.{content_of}
 use Rattle.nego_reader.proofs.Said.{spelled_once}
+use Rattle.nego_shape.specs.Faults.{shape_fault}
+use Rattle.nego_shape.proofs.Undetermined.{undetermined}
+use Rattle.nego_shape.proofs.ShapedDiagrams.{shaped-diagram}
+use Rattle.nego_shape.proofs.SoundShape.{sound_shape}
+use Rattle.nego_reader.specs.Content.{content_of}
 use Rattle.nego_cli.specs.declared.answer.Answer.{Answer}
 use Rattle.nego_cli.specs.declared.answer.Answer.TheVariants as answers
-use Rattle.nego_cli.specs.declared.refusal.Refusal.{Refusal}
-use Rattle.nego_cli.specs.declared.refusal.Refusal.TheVariants as refusals
+use Rattle.nego_cli.specs.declared.answer.Job.{Job}
+use Rattle.nego_cli.specs.declared.answer.Job.TheVariants as jobs
 use Rattle.nego_cli.specs.declared.status.Status.{Status}
 use Rattle.nego_cli.specs.declared.status.Status.TheVariants as statuses
 use Rattle.nego_cli.specs.declared.top.TheConstants.{PART_LIMIT}
-use Rattle.nego_cli.specs.Solo.{SoloForm}
+use Rattle.nego_cli.specs.Narrow.{IsNarrowDiagram}
+use Rattle.nego_cli.specs.Refusals.{Why, TooLong, NoEnd, Off, Misshapen, Undetermined, NotYet, diagram_of}
 use Rattle.nego_cli.specs.Texts.{usage_line, read_fault_line, memory_line}
-use Rattle.nego_cli.specs.Answer.{Change, Failed, Put, Reply, Reduced, BadWords, Refuses, ReadFails, MemoryFails, Causes, IsReduce, SpellsForm, SpellsNoForm, IsReductionOf, status_of, IsReason, IsFault, Says, OutFails, ErrFails}
+use Rattle.nego_cli.specs.Answer.{Change, Failed, Put, PutFront, Reply, Checked, Reduced, BadWords, Refuses, ReadFails, MemoryFails, Causes, Asks, SpellsShaped, InputRefused, Holds, IsTextOf, job_asked, status_of, IsReason, IsFault, Says, OutFails, ErrFails}
 use Rattle.nego_cli.specs.Handed.{IsFound, LinePut, IsDelivered}
 use Rattle.nego_cli.proofs.Found.{told_then}
-use Rattle.nego_cli.proofs.SoloContents.{one_content}
 
 -- ---- what is said
 
@@ -33,13 +41,13 @@ line_said words source out err line wanted status reason nothing said (inr (e, f
     subst P (sym e) (inr (record { line = line; reason = reason; failed = failed; front = front; nothing = nothing }))
 
 pub what_is_said : (words : List (List ℕ)) (source out err : Change) (answer : Answer) (status : Status) → IsFound words source answer → IsDelivered answer out err status → Says words source out err status
-what_is_said words source out err (answers.Reduced text) statuses.Done (form, reduction, due) (put, nothing) = (form, text, due, reduction, put, nothing)
-what_is_said words source out err (answers.Reduced text) statuses.WriteFault (form, reduction, due) (failed, front, told) =
-    inl (record { form = form; text = text; due = due; reduction = reduction; failed = failed; front = front; told = told })
-what_is_said words source out err (answers.Reduced text) statuses.Words found delivered = absurd delivered
-what_is_said words source out err (answers.Reduced text) statuses.Refused found delivered = absurd delivered
-what_is_said words source out err (answers.Reduced text) statuses.ReadFault found delivered = absurd delivered
-what_is_said words source out err (answers.Reduced text) statuses.Memory found delivered = absurd delivered
+what_is_said words source out err (answers.Told text) statuses.Done (reply, due, text_is) (put, nothing) = (reply, text, due, text_is, put, nothing)
+what_is_said words source out err (answers.Told text) statuses.WriteFault (reply, due, text_is) (failed, front, told) =
+    inl (record { reply = reply; text = text; due = due; text_is = text_is; failed = failed; front = front; told = told })
+what_is_said words source out err (answers.Told text) statuses.Words found delivered = absurd delivered
+what_is_said words source out err (answers.Told text) statuses.Refused found delivered = absurd delivered
+what_is_said words source out err (answers.Told text) statuses.ReadFault found delivered = absurd delivered
+what_is_said words source out err (answers.Told text) statuses.Memory found delivered = absurd delivered
 what_is_said words source out err answers.BadWords status due (nothing, put) =
     line_said words source out err usage_line statuses.Words status (inl (refl, due)) nothing (λ shown. (due, nothing, shown)) put
 what_is_said words source out err (answers.Refused line) status (why, line_is, due) (nothing, put) =
@@ -51,40 +59,94 @@ what_is_said words source out err answers.Memory status trouble (nothing, put) =
 
 -- ---- one status
 
+-- the job that words ask for is one
+one_job : (words : List (List ℕ)) (job other : Job) → Asks words job → Asks words other → job ≡ other
+one_job words job other asked asked' = same_Some job other (sym asked ∙ asked')
+
+-- words that ask for a job are no bad words
+no_bad_words : (words : List (List ℕ)) (job : Job) → Asks words job → job_asked words ≡ None → ⊥
+no_bad_words words job asked wrong = let apart : Some job ≡ None = sym asked ∙ wrong in cc
+
 -- a part of an input is one
 one_part : (input part left part' left' : List ℕ) → reading PART_LIMIT input ≡ Whole part left → reading PART_LIMIT input ≡ Whole part' left' → part ≡ part'
 one_part input part left part' left' e e' = let same : Whole part left ≡ Whole part' left' = sym e ∙ e' in cc
 
--- a text that spells a diagram has no fault
-no_fault : (text text' : List ℕ) (form : SoloForm) → text ≡ text' → SpellsForm text form → ((p : Parsed) → ¬ Spells text' p) → ⊥
-no_fault text text' form e spelled none = none spelled.1.0 (subst (λ (t : List ℕ). Spells t spelled.1.0) e spelled.1.1)
+-- the value that a part spells is one
+one_value : (part part' : List ℕ) (p q : Parsed) → part ≡ part' → Spells part p → Spells part' q → p ≡ q
+one_value part part' p q e spelled spelled' = spelled_once part p q spelled (subst (λ (t : List ℕ). Spells t q) (sym e) spelled')
 
--- a text that spells a diagram of a form spells none that is of no form
-no_other : (text text' : List ℕ) (form : SoloForm) → text ≡ text' → SpellsForm text form → SpellsNoForm text' → ⊥
-no_other text text' form e (solo, (p, spelled, same)) none =
-    let (q, spelled', other) = subst (λ (t : List ℕ). SpellsNoForm t) (sym e) none in
-    let one : q ≡ p = spelled_once text q p spelled' spelled in
-    other form solo (ap content_of one ∙ same)
+-- the value that an input begins with is one
+one_shaped : (input part left part' left' : List ℕ) (p q : Parsed) → reading PART_LIMIT input ≡ Whole part left → reading PART_LIMIT input ≡ Whole part' left' → Spells part p → Spells part' q → p ≡ q
+one_shaped input part left part' left' p q e e' spelled spelled' = one_value part part' p q (one_part input part left part' left' e e') spelled spelled'
 
--- a form is not refused
-not_refused : (words : List (List ℕ)) (input : List ℕ) (form : SoloForm) (why : Refusal) → Causes words input (Reduced form) → Causes words input (Refuses why) → ⊥
-not_refused words input form refusals.TooLong (right, (part, left, read, spelled)) (right', past) = let apart : Whole part left ≡ _ = sym read ∙ past in cc
-not_refused words input form (refusals.NoEnd line) (right, (part, left, read, spelled)) (right', unended) = let apart : Whole part left ≡ _ = sym read ∙ unended in cc
-not_refused words input form (refusals.Off fault) (right, (part, left, read, spelled)) (right', (part', left', read', off)) =
-    no_fault part part' form (one_part input part left part' left' read read') spelled off.1
-not_refused words input form refusals.NotYet (right, (part, left, read, spelled)) (right', (part', left', read', none)) =
-    no_other part part' form (one_part input part left part' left' read read') spelled none
+-- an input that begins with a value without a fault of shape is not refused for its lines, its grammar or its shape
+abbrev ForBoth : Why → Type 0
+ForBoth TooLong = Unit {0}
+ForBoth (NoEnd line) = Unit {0}
+ForBoth (Off fault) = Unit {0}
+ForBoth (Misshapen p fault) = Unit {0}
+ForBoth (Undetermined d o a) = ⊥
+ForBoth NotYet = ⊥
+
+shaped_not_refused : (input part left : List ℕ) (p : Parsed) (job : Job) (why : Why) → reading PART_LIMIT input ≡ Whole part left → SpellsShaped part p → ForBoth why → InputRefused job input why → ⊥
+shaped_not_refused input part left p job TooLong read shaped both past = let apart : Whole part left ≡ _ = sym read ∙ past in cc
+shaped_not_refused input part left p job (NoEnd line) read shaped both unended = let apart : Whole part left ≡ _ = sym read ∙ unended in cc
+shaped_not_refused input part left p job (Off fault) read shaped both (part', left', read', off) =
+    off.1 p (subst (λ (t : List ℕ). Spells t p) (one_part input part left part' left' read read') shaped.0)
+shaped_not_refused input part left p job (Misshapen q fault) read shaped both (part', left', read', (spelled, faulty)) =
+    let same = one_shaped input part left part' left' p q read read' shaped.0 spelled in
+    let apart : None ≡ Some fault = sym shaped.1 ∙ (ap shape_fault same ∙ faulty) in
+    cc
+shaped_not_refused input part left p job (Undetermined d o a) read shaped both h = absurd both
+shaped_not_refused input part left p job NotYet read shaped both h = absurd both
+
+-- a diagram that is checked is not refused
+checked_not_refused : (words : List (List ℕ)) (input : List ℕ) (p : Parsed) (why : Why) → Causes words input (Checked p) → Causes words input (Refuses why) → ⊥
+checked_not_refused words input p TooLong (right, (part, left, read, shaped)) (job, asked, h) = shaped_not_refused input part left p job TooLong read shaped tt h
+checked_not_refused words input p (NoEnd line) (right, (part, left, read, shaped)) (job, asked, h) = shaped_not_refused input part left p job (NoEnd line) read shaped tt h
+checked_not_refused words input p (Off fault) (right, (part, left, read, shaped)) (job, asked, h) = shaped_not_refused input part left p job (Off fault) read shaped tt h
+checked_not_refused words input p (Misshapen q fault) (right, (part, left, read, shaped)) (job, asked, h) = shaped_not_refused input part left p job (Misshapen q fault) read shaped tt h
+checked_not_refused words input p (Undetermined d o a) (right, cause) (job, asked, (part', left', read', (same, h))) =
+    let other : jobs.Check ≡ jobs.Reduce = one_job words jobs.Check job right asked ∙ same in cc
+checked_not_refused words input p NotYet (right, cause) (job, asked, (part', left', read', (same, h))) =
+    let other : jobs.Check ≡ jobs.Reduce = one_job words jobs.Check job right asked ∙ same in cc
+
+-- a diagram that is reduced is not refused
+reduced_not_refused : (words : List (List ℕ)) (input : List ℕ) (p : Parsed) (why : Why) → Causes words input (Reduced p) → Causes words input (Refuses why) → ⊥
+reduced_not_refused words input p TooLong (right, (part, left, read, (shaped, reducible))) (job, asked, h) = shaped_not_refused input part left p job TooLong read shaped tt h
+reduced_not_refused words input p (NoEnd line) (right, (part, left, read, (shaped, reducible))) (job, asked, h) = shaped_not_refused input part left p job (NoEnd line) read shaped tt h
+reduced_not_refused words input p (Off fault) (right, (part, left, read, (shaped, reducible))) (job, asked, h) = shaped_not_refused input part left p job (Off fault) read shaped tt h
+reduced_not_refused words input p (Misshapen q fault) (right, (part, left, read, (shaped, reducible))) (job, asked, h) = shaped_not_refused input part left p job (Misshapen q fault) read shaped tt h
+reduced_not_refused words input p (Undetermined d o a) (right, (part, left, read, (shaped, reducible))) (job, asked, (part', left', read', (same, (q, shaped', is, first)))) =
+    let one = one_shaped input part left part' left' p q read read' shaped.0 shaped'.0 in
+    let here : d ≡ diagram_of p = is ∙ ap diagram_of (sym one) in
+    let found = subst (λ (x : PlainDiagram). IsFirstUndetermined x o a) here first in
+    undetermined (diagram_of p) (shaped-diagram (content_of p) (sound_shape p shaped.1)) o a found.outcome found.two reducible.0
+reduced_not_refused words input p NotYet (right, (part, left, read, (shaped, reducible))) (job, asked, (part', left', read', (same, (q, shaped', determined, wide)))) =
+    let one = one_shaped input part' left' part left q p read' read shaped'.0 shaped.0 in
+    wide (subst (λ (x : Parsed). IsNarrowDiagram (diagram_of x)) (sym one) reducible.1)
+
+-- a job is one of two
+two_jobs : (words : List (List ℕ)) → Asks words jobs.Check → Asks words jobs.Reduce → ⊥
+two_jobs words asked asked' = let same : jobs.Check ≡ jobs.Reduce = one_job words jobs.Check jobs.Reduce asked asked' in cc
 
 -- all causes that stand together have one status
 one_status : (words : List (List ℕ)) (input : List ℕ) (reply other : Reply) → Causes words input reply → Causes words input other → status_of reply ≡ status_of other
 one_status words input BadWords BadWords cause cause' = refl
-one_status words input BadWords (Reduced form) wrong cause = absurd (wrong cause.0)
-one_status words input BadWords (Refuses why) wrong cause = absurd (wrong cause.0)
-one_status words input (Reduced form) BadWords cause wrong = absurd (wrong cause.0)
-one_status words input (Reduced form) (Reduced form') cause cause' = refl
-one_status words input (Reduced form) (Refuses why) cause cause' = absurd (not_refused words input form why cause cause')
-one_status words input (Refuses why) BadWords cause wrong = absurd (wrong cause.0)
-one_status words input (Refuses why) (Reduced form) cause cause' = absurd (not_refused words input form why cause' cause)
+one_status words input BadWords (Checked p) wrong cause = absurd (no_bad_words words jobs.Check cause.0 wrong)
+one_status words input BadWords (Reduced p) wrong cause = absurd (no_bad_words words jobs.Reduce cause.0 wrong)
+one_status words input BadWords (Refuses why) wrong (job, asked, h) = absurd (no_bad_words words job asked wrong)
+one_status words input (Checked p) BadWords cause wrong = absurd (no_bad_words words jobs.Check cause.0 wrong)
+one_status words input (Checked p) (Checked q) cause cause' = refl
+one_status words input (Checked p) (Reduced q) cause cause' = refl
+one_status words input (Checked p) (Refuses why) cause cause' = absurd (checked_not_refused words input p why cause cause')
+one_status words input (Reduced p) BadWords cause wrong = absurd (no_bad_words words jobs.Reduce cause.0 wrong)
+one_status words input (Reduced p) (Checked q) cause cause' = refl
+one_status words input (Reduced p) (Reduced q) cause cause' = refl
+one_status words input (Reduced p) (Refuses why) cause cause' = absurd (reduced_not_refused words input p why cause cause')
+one_status words input (Refuses why) BadWords (job, asked, h) wrong = absurd (no_bad_words words job asked wrong)
+one_status words input (Refuses why) (Checked p) cause cause' = absurd (checked_not_refused words input p why cause' cause)
+one_status words input (Refuses why) (Reduced p) cause cause' = absurd (reduced_not_refused words input p why cause' cause)
 one_status words input (Refuses why) (Refuses why') cause cause' = refl
 
 -- whatever the reason of a line, the source tells after only if it told before
@@ -98,20 +160,34 @@ write_told : (words : List (List ℕ)) (source out err : Change) → OutFails wo
 write_told words source out err (inl fails) = told_then source.before source.after _ _ (λ _ _ _. tt) fails.due.input
 write_told words source out err (inr fails) = reason_told words source fails.line fails.reason
 
-pub words_told : (words : List (List ℕ)) (source out err : Change) (status : Status) → Says words source out err status → (¬ IsReduce words) → (status ≡ statuses.Words) ⊎ IsFault status
-words_told words source out err statuses.Done said wrong = absurd (wrong said.2.holds.0)
+-- a text is put where the words ask for a job
+text_no_bad_words : (words : List (List ℕ)) (reply : Reply) (text : List ℕ) → Holds words reply → IsTextOf reply text → job_asked words ≡ None → ⊥
+text_no_bad_words words (Checked p) text holds text_is wrong = no_bad_words words jobs.Check holds.0 wrong
+text_no_bad_words words (Reduced p) text holds text_is wrong = no_bad_words words jobs.Reduce holds.0 wrong
+text_no_bad_words words BadWords text holds text_is wrong = absurd text_is
+text_no_bad_words words (Refuses why) text holds text_is wrong = absurd text_is
+
+pub words_told : (words : List (List ℕ)) (source out err : Change) (status : Status) → Says words source out err status → job_asked words ≡ None → (status ≡ statuses.Words) ⊎ IsFault status
+words_told words source out err statuses.Done (reply, text, due, text_is, put, nothing) wrong = absurd (text_no_bad_words words reply text due.holds text_is wrong)
 words_told words source out err statuses.Words said wrong = inl refl
-words_told words source out err statuses.Refused said wrong = absurd (wrong said.1.holds)
+words_told words source out err statuses.Refused (why, due, nothing, put) wrong = absurd (no_bad_words words due.holds.0 due.holds.1 wrong)
 words_told words source out err statuses.ReadFault said wrong = inr (inl refl)
 words_told words source out err statuses.WriteFault said wrong = inr (inr (inl refl))
 words_told words source out err statuses.Memory said wrong = inr (inr (inr refl))
+
+-- a text is put with one status
+text_done : (reply : Reply) (text : List ℕ) → IsTextOf reply text → statuses.Done ≡ status_of reply
+text_done (Checked p) text text_is = refl
+text_done (Reduced p) text text_is = refl
+text_done BadWords text text_is = absurd text_is
+text_done (Refuses why) text text_is = absurd text_is
 
 abbrev IsExact : List (List ℕ) → Status → List ℕ → List ℕ → Type 0
 IsExact words status input left = (reply : Reply) → Causes words input reply → (status ≡ status_of reply) ⊎ IsFault status
 
 pub exactly_told : (words : List (List ℕ)) (source out err : Change) (status : Status) → Says words source out err status → WhereTold source.before source.after (IsExact words status)
-exactly_told words source out err statuses.Done (form, text, due, reduction, put, nothing) =
-    told_then source.before source.after _ (IsExact words statuses.Done) (λ input left known reply cause. inl (one_status words input (Reduced form) reply known.0 cause)) due.input
+exactly_told words source out err statuses.Done (reply, text, due, text_is, put, nothing) =
+    told_then source.before source.after _ (IsExact words statuses.Done) (λ input left known other cause. inl (text_done reply text text_is ∙ one_status words input reply other known.0 cause)) due.input
 exactly_told words source out err statuses.Words (due, nothing, put) =
     told_then source.before source.after _ (IsExact words statuses.Words) (λ input left known reply cause. inl (one_status words input BadWords reply known.0 cause)) due.input
 exactly_told words source out err statuses.Refused (why, due, nothing, put) =
@@ -125,39 +201,55 @@ exactly_told words source out err statuses.Memory (trouble, nothing, put) =
 
 -- ---- completeness
 
--- the form of a text is one
-one_form : (text text' : List ℕ) (form other : SoloForm) → text ≡ text' → SpellsForm text form → SpellsForm text' other → form ≡ other
-one_form text text' form other e (solo, (p, spelled, same)) spelled_other =
-    let (solo', (q, spelled', same')) = subst (λ (t : List ℕ). SpellsForm t other) (sym e) spelled_other in
-    let one : p ≡ q = spelled_once text p q spelled spelled' in
-    one_content form other (sym same ∙ (ap content_of one ∙ same'))
+-- the reply that is a text is one
+one_reply : (words : List (List ℕ)) (input : List ℕ) (reply other : Reply) (text : List ℕ) → Causes words input reply → Causes words input other → IsTextOf reply text → status_of other ≡ statuses.Done → reply ≡ other
+one_reply words input (Checked p) (Checked q) text (right, (part, left, read, shaped)) (right', (part', left', read', shaped')) text_is done =
+    ap Checked (one_shaped input part left part' left' p q read read' shaped.0 shaped'.0)
+one_reply words input (Checked p) (Reduced q) text cause cause' text_is done = absurd (two_jobs words cause.0 cause'.0)
+one_reply words input (Reduced p) (Checked q) text cause cause' text_is done = absurd (two_jobs words cause'.0 cause.0)
+one_reply words input (Reduced p) (Reduced q) text (right, (part, left, read, (shaped, reducible))) (right', (part', left', read', (shaped', reducible'))) text_is done =
+    ap Reduced (one_shaped input part left part' left' p q read read' shaped.0 shaped'.0)
+one_reply words input (Checked p) BadWords text cause cause' text_is done = cc
+one_reply words input (Checked p) (Refuses why) text cause cause' text_is done = cc
+one_reply words input (Reduced p) BadWords text cause cause' text_is done = cc
+one_reply words input (Reduced p) (Refuses why) text cause cause' text_is done = cc
+one_reply words input BadWords other text cause cause' text_is done = absurd text_is
+one_reply words input (Refuses why) other text cause cause' text_is done = absurd text_is
 
-one_reading : (words : List (List ℕ)) (input : List ℕ) (form other : SoloForm) → Causes words input (Reduced form) → Causes words input (Reduced other) → form ≡ other
-one_reading words input form other (right, (part, left, read, spelled)) (right', (part', left', read', spelled')) =
-    one_form part part' form other (one_part input part left part' left' read read') spelled spelled'
+-- a reply that is a text is none of the words and no refusal
+done_not_bad : (words : List (List ℕ)) (input : List ℕ) (other : Reply) → Causes words input other → status_of other ≡ statuses.Done → job_asked words ≡ None → ⊥
+done_not_bad words input (Checked p) cause done wrong = no_bad_words words jobs.Check cause.0 wrong
+done_not_bad words input (Reduced p) cause done wrong = no_bad_words words jobs.Reduce cause.0 wrong
+done_not_bad words input BadWords cause done wrong = cc
+done_not_bad words input (Refuses why) cause done wrong = cc
+
+done_not_refused : (words : List (List ℕ)) (input : List ℕ) (other : Reply) (why : Why) → Causes words input other → status_of other ≡ statuses.Done → Causes words input (Refuses why) → ⊥
+done_not_refused words input (Checked p) why cause done cause' = checked_not_refused words input p why cause cause'
+done_not_refused words input (Reduced p) why cause done cause' = reduced_not_refused words input p why cause cause'
+done_not_refused words input BadWords why cause done cause' = cc
+done_not_refused words input (Refuses other) why cause done cause' = cc
 
 abbrev IsComplete : List (List ℕ) → Change → Change → Change → Status → List ℕ → List ℕ → Type 0
 IsComplete words source out err status input _ =
-    (form : SoloForm) → Causes words input (Reduced form) → ¬ Failed source → ¬ Failed out → ¬ Failed err →
-    ((status ≡ statuses.Done) × ((text : List ℕ) × IsReductionOf form text × Put text out)) ⊎ (status ≡ statuses.Memory)
+    (reply : Reply) → Causes words input reply → status_of reply ≡ statuses.Done → ¬ Failed source → ¬ Failed out → ¬ Failed err →
+    ((status ≡ statuses.Done) × ((text : List ℕ) × IsTextOf reply text × Put text out)) ⊎ (status ≡ statuses.Memory)
 
 write_failed : (words : List (List ℕ)) (source out err : Change) → OutFails words source out err ⊎ ErrFails words source out err → ¬ Failed out → ¬ Failed err → ⊥
 write_failed words source out err (inl fails) out_well err_well = out_well fails.failed
 write_failed words source out err (inr fails) out_well err_well = err_well fails.failed
 
 pub complete_told : (words : List (List ℕ)) (source out err : Change) (status : Status) → Says words source out err status → WhereTold source.before source.after (IsComplete words source out err status)
-complete_told words source out err statuses.Done (form, text, due, reduction, put, nothing) =
-    told_then source.before source.after _ (IsComplete words source out err statuses.Done) (λ input after known other cause source_well out_well err_well.
-    inl (refl, (text, subst (λ (f : SoloForm). IsReductionOf f text) (one_reading words input form other known.0 cause) reduction, put))) due.input
+complete_told words source out err statuses.Done (reply, text, due, text_is, put, nothing) =
+    told_then source.before source.after _ (IsComplete words source out err statuses.Done) (λ input after known other cause done source_well out_well err_well.
+    inl (refl, (text, subst (λ (r : Reply). IsTextOf r text) (one_reply words input reply other text known.0 cause text_is done) text_is, put))) due.input
 complete_told words source out err statuses.Words (due, nothing, put) =
-    told_then source.before source.after _ (IsComplete words source out err statuses.Words) (λ input after known other cause source_well out_well err_well. absurd (known.0 cause.0)) due.input
+    told_then source.before source.after _ (IsComplete words source out err statuses.Words) (λ input after known other cause done source_well out_well err_well. absurd (done_not_bad words input other cause done known.0)) due.input
 complete_told words source out err statuses.Refused (why, due, nothing, put) =
-    told_then source.before source.after _ (IsComplete words source out err statuses.Refused) (λ input after known other cause source_well out_well err_well.
-    absurd (not_refused words input other why cause known.0)) due.input
+    told_then source.before source.after _ (IsComplete words source out err statuses.Refused) (λ input after known other cause done source_well out_well err_well. absurd (done_not_refused words input other why cause done known.0)) due.input
 complete_told words source out err statuses.ReadFault (trouble, nothing, put) =
-    told_then source.before source.after _ (IsComplete words source out err statuses.ReadFault) (λ input after known other cause source_well out_well err_well. absurd (source_well trouble.1)) trouble.2
+    told_then source.before source.after _ (IsComplete words source out err statuses.ReadFault) (λ input after known other cause done source_well out_well err_well. absurd (source_well trouble.1)) trouble.2
 complete_told words source out err statuses.WriteFault said =
-    told_then source.before source.after _ (IsComplete words source out err statuses.WriteFault) (λ input after known other cause source_well out_well err_well.
+    told_then source.before source.after _ (IsComplete words source out err statuses.WriteFault) (λ input after known other cause done source_well out_well err_well.
     absurd (write_failed words source out err said out_well err_well)) (write_told words source out err said)
 complete_told words source out err statuses.Memory (trouble, nothing, put) =
-    told_then source.before source.after _ (IsComplete words source out err statuses.Memory) (λ input after known other cause source_well out_well err_well. inr refl) trouble
+    told_then source.before source.after _ (IsComplete words source out err statuses.Memory) (λ input after known other cause done source_well out_well err_well. inr refl) trouble

@@ -1,28 +1,34 @@
 -- What the top call answers: each status with its cause, what it put out, and what it left unread.
-use Rattle.std.specs.Prelude.{◌≡◌, ◌≢◌, ◌⊎◌, ℕ, List, [], Option, Some}
+use Rattle.std.specs.Prelude.{◌≡◌, ◌≢◌, ◌⊎◌, ℕ, List, [], ◌∷◌, ◌++◌, Option, Some, None, MatchOption, option_and_then}
 use Rattle.nego_io.specs.Outside.{Rose, WhereTold, Puts, PutsFront}
 use Rattle.nego_io.specs.Answer.{TakesWithin}
 use Rattle.nego_io.specs.Part.{Whole, PastLimit, Unended, behind, reading}
-use Rattle.nego_model.specs.Diagram.{IsDiagram}
+use Rattle.nego_model.specs.Negotiation.{IsDeterministic}
+use Rattle.nego_model.specs.Diagram.{PlainDiagram, IsDiagram, negotiation_of}
+use Rattle.nego_model.specs.Undetermined.{IsFirstUndetermined}
 use Rattle.nego_model.specs.Summary.{PlainSummary, Tells}
 use Rattle.nego_reader.specs.declared.parsed.Parsed.{Parsed}
 use Rattle.nego_reader.specs.Spelling.{Spells}
 use Rattle.nego_reader.specs.Reading.{diagram_fault}
-use Rattle.nego_reader.specs.Content.{content_of}
+use Rattle.nego_shape.specs.Faults.{shape_fault}
+use Rattle.nego_shape.specs.Answers.{OrderHolds}
+use Rattle.nego_shape.specs.declared.answer.Order.{Order}
 use Rattle.nego_expr.specs.Use.{PlainUse}
 use Rattle.nego_expr.specs.Fresh.{fresh_work}
+use Rattle.nego_cli.specs.declared.answer.Job.{Job}
+use Rattle.nego_cli.specs.declared.answer.Job.TheVariants as jobs
+use Rattle.nego_cli.specs.declared.command.Command.{Command}
 use Rattle.nego_cli.specs.declared.command.Command.TheVariants as commands
-use Rattle.nego_cli.specs.declared.refusal.Refusal.{Refusal}
-use Rattle.nego_cli.specs.declared.refusal.Refusal.TheVariants as refusals
 use Rattle.nego_cli.specs.declared.status.Status.{Status}
 use Rattle.nego_cli.specs.declared.status.Status.TheVariants as statuses
 use Rattle.nego_cli.specs.declared.top.TheConstants.{PART_LIMIT}
 use Rattle.nego_cli.specs.Words.{command_of}
-use Rattle.nego_cli.specs.Solo.{SoloForm, IsSolo, diagram_of}
-use Rattle.nego_cli.specs.SoloContent.{content_of_form}
+use Rattle.nego_cli.specs.Narrow.{IsNarrowDiagram}
 use Rattle.nego_cli.specs.Order.{Reduces}
 use Rattle.nego_cli.specs.Certificate.{reduction_text}
-use Rattle.nego_cli.specs.Texts.{usage_line, refusal_line, read_fault_line, write_fault_line, memory_line}
+use Rattle.nego_cli.specs.FormText.{form_text}
+use Rattle.nego_cli.specs.Refusals.{Why, TooLong, NoEnd, Off, Misshapen, Undetermined, NotYet, diagram_of, refusal_line}
+use Rattle.nego_cli.specs.Texts.{usage_line, read_fault_line, write_fault_line, memory_line}
 
 -- What is seen of an object of the outside before a call and after it: its bytes, where told, and its count of faults.
 pub record Change : Type 0 where
@@ -50,68 +56,106 @@ PutFront text object = PutsFront text object.before object.after
 abbrev pub Tried : List ℕ → Change → Type 0
 Tried text object = (Failed object × PutFront text object) ⊎ Put text object
 
--- The words are the command `reduce`, which is the one that is built today.
-abbrev pub IsReduce : List (List ℕ) → Type 0
-IsReduce words = command_of words ≡ Some commands.Reduce
+-- the job of a command that is built
+abbrev pub job_of : Command → Option Job
+job_of commands.Check = Some jobs.Check
+job_of commands.Reduce = Some jobs.Reduce
+job_of commands.Replay = None
+job_of (commands.Ask starts) = None
+job_of (commands.Run starts) = None
+job_of (commands.Node seed turns starts) = None
+job_of (commands.Make n) = None
 
--- The text spells a diagram of the form, but for places, blanks and comments.
-abbrev pub SpellsForm : List ℕ → SoloForm → Type 0
-SpellsForm text form = IsSolo form × ((p : Parsed) × Spells text p × (content_of p ≡ content_of_form form))
+-- the job that the words ask for, where they are a command that is built
+abbrev pub job_asked : List (List ℕ) → Option Job
+job_asked words = option_and_then job_of (command_of words)
 
--- The text spells a diagram, and it is of no form that is taken yet.
-abbrev pub SpellsNoForm : List ℕ → Type 0
-SpellsNoForm text = (p : Parsed) × Spells text p × ((form : SoloForm) → IsSolo form → content_of p ≢ content_of_form form)
+-- The words ask for the job.
+abbrev pub Asks : List (List ℕ) → Job → Type 0
+Asks words job = job_asked words ≡ Some job
+
+-- The text spells this value, which has no fault of shape.
+abbrev pub SpellsShaped : List ℕ → Parsed → Type 0
+SpellsShaped text p = Spells text p × (shape_fault p ≡ None)
+
+-- `reduce` takes the diagram today: it is deterministic, and of today's form.
+abbrev pub IsReducible : PlainDiagram → Type 0
+IsReducible d = IsDeterministic (negotiation_of d) × IsNarrowDiagram d
 
 -- what words and input come to
 pub data Reply : Type 0 where
-  Reduced : SoloForm → Reply
+  Checked : Parsed → Reply
+  Reduced : Parsed → Reply
   BadWords : Reply
-  Refuses : Refusal → Reply
+  Refuses : Why → Reply
 
--- The text has the cause of the refusal, which is one of a whole part.
-abbrev pub IsRefused : List ℕ → Refusal → Type 0
-IsRefused text (refusals.Off fault) = (diagram_fault text ≡ Some fault) × ((p : Parsed) → ¬ Spells text p)
-IsRefused text refusals.NotYet = SpellsNoForm text
-IsRefused text refusals.TooLong = ⊥
-IsRefused text (refusals.NoEnd line) = ⊥
+-- The text has the cause of the refusal, which is one of a whole part, in this job.
+abbrev pub IsRefused : Job → List ℕ → Why → Type 0
+IsRefused job text TooLong = ⊥
+IsRefused job text (NoEnd line) = ⊥
+IsRefused job text (Off fault) = (diagram_fault text ≡ Some fault) × ((p : Parsed) → ¬ Spells text p)
+IsRefused job text (Misshapen p fault) = Spells text p × (shape_fault p ≡ Some fault)
+IsRefused job text (Undetermined d o a) = (job ≡ jobs.Reduce) × ((p : Parsed) × SpellsShaped text p × (d ≡ diagram_of p) × IsFirstUndetermined d o a)
+IsRefused job text NotYet = (job ≡ jobs.Reduce) × ((p : Parsed) × SpellsShaped text p × IsDeterministic (negotiation_of (diagram_of p)) × ¬ IsNarrowDiagram (diagram_of p))
 
 -- The input begins with a part that has P.
 abbrev pub BeginsWithPart : (List ℕ → Type 0) → List ℕ → Type 0
 BeginsWithPart P input = (part left : List ℕ) × (reading PART_LIMIT input ≡ Whole part left) × P part
 
--- The input is refused, and why.
-abbrev pub InputRefused : List ℕ → Refusal → Type 0
-InputRefused input refusals.TooLong = reading PART_LIMIT input ≡ PastLimit
-InputRefused input (refusals.NoEnd line) = reading PART_LIMIT input ≡ Unended line
-InputRefused input (refusals.Off fault) = BeginsWithPart (λ part. IsRefused part (refusals.Off fault)) input
-InputRefused input refusals.NotYet = BeginsWithPart (λ part. IsRefused part refusals.NotYet) input
+-- The input is refused in this job, and why.
+abbrev pub InputRefused : Job → List ℕ → Why → Type 0
+InputRefused job input TooLong = reading PART_LIMIT input ≡ PastLimit
+InputRefused job input (NoEnd line) = reading PART_LIMIT input ≡ Unended line
+InputRefused job input (Off fault) = BeginsWithPart (λ part. IsRefused job part (Off fault)) input
+InputRefused job input (Misshapen p fault) = BeginsWithPart (λ part. IsRefused job part (Misshapen p fault)) input
+InputRefused job input (Undetermined d o a) = BeginsWithPart (λ part. IsRefused job part (Undetermined d o a)) input
+InputRefused job input NotYet = BeginsWithPart (λ part. IsRefused job part NotYet) input
 
 -- The words and the input are the cause of the reply.
 abbrev pub Causes : List (List ℕ) → List ℕ → Reply → Type 0
-Causes words input BadWords = ¬ IsReduce words
-Causes words input (Reduced form) = IsReduce words × BeginsWithPart (λ part. SpellsForm part form) input
-Causes words input (Refuses why) = IsReduce words × InputRefused input why
+Causes words input (Checked p) = Asks words jobs.Check × BeginsWithPart (λ part. SpellsShaped part p) input
+Causes words input (Reduced p) = Asks words jobs.Reduce × BeginsWithPart (λ part. SpellsShaped part p × IsReducible (diagram_of p)) input
+Causes words input BadWords = job_asked words ≡ None
+Causes words input (Refuses why) = (job : Job) × Asks words job × InputRefused job input why
 
 -- what a reply leaves of an input
 abbrev pub left_by : Reply → List ℕ → List ℕ
+left_by (Checked p) input = behind PART_LIMIT input
+left_by (Reduced p) input = behind PART_LIMIT input
 left_by BadWords input = input
-left_by (Reduced form) input = behind PART_LIMIT input
 left_by (Refuses why) input = behind PART_LIMIT input
 
--- What a reply says of the words and, where it is a reduction, of the diagram: whatever the source tells.
+-- What a reply says of the words and of the diagram: whatever the source tells.
 abbrev pub Holds : List (List ℕ) → Reply → Type 0
-Holds words BadWords = ¬ IsReduce words
-Holds words (Reduced form) = IsReduce words × IsSolo form × IsDiagram (diagram_of form)
-Holds words (Refuses why) = IsReduce words
+Holds words (Checked p) = Asks words jobs.Check × IsDiagram (diagram_of p)
+Holds words (Reduced p) = Asks words jobs.Reduce × IsDiagram (diagram_of p)
+Holds words BadWords = job_asked words ≡ None
+Holds words (Refuses why) = (job : Job) × Asks words job
 
--- The text is the reduction of the form: the certificate of just those uses that lead from the form's fresh work to a
--- work that is done, each the next one in its turn; the verdict; and the summary of what is left, which tells the diagram.
-pub record IsReductionOf (form : SoloForm) (text : List ℕ) : Type 0 where
+-- The text tells the form of the diagram: its counts, whether it is deterministic, else where it first isn't, and the
+-- order of its atoms, else the cycle that is found.
+pub record IsFormOf (d : PlainDiagram) (text : List ℕ) : Type 0 where
+  pub choice : Option (ℕ × ℕ)
+  pub order : Order
+  pub choice_is : MatchOption choice (IsDeterministic (negotiation_of d)) (λ pair. IsFirstUndetermined d pair.0 pair.1)
+  pub order_is : OrderHolds (negotiation_of d) order
+  pub printed : text ≡ form_text d choice order
+
+-- The text is the reduction of the diagram: the certificate of just those uses that lead from its fresh work to a work
+-- that is done, each the next one in its turn; the verdict; and the summary of what is left, which tells the diagram.
+pub record IsReductionOf (d : PlainDiagram) (text : List ℕ) : Type 0 where
   pub uses : List PlainUse
   pub summary : PlainSummary
-  pub reduces : Reduces (fresh_work (diagram_of form)) uses summary
-  pub tells : Tells summary (diagram_of form)
+  pub reduces : Reduces (fresh_work d) uses summary
+  pub tells : Tells summary d
   pub printed : text ≡ reduction_text uses summary
+
+-- The text is that of the reply, which is one for `out`.
+abbrev pub IsTextOf : Reply → List ℕ → Type 0
+IsTextOf (Checked p) text = IsFormOf (diagram_of p) text
+IsTextOf (Reduced p) text = IsReductionOf (diagram_of p) text
+IsTextOf BadWords text = ⊥
+IsTextOf (Refuses why) text = ⊥
 
 -- The reply holds, and where the source tells, the words and the input are its cause and it leaves of the input what
 -- it should.
@@ -130,7 +174,7 @@ pub data Trouble : Type 0 where
 
 -- The trouble has its cause.
 abbrev pub IsTrouble : List (List ℕ) → Change → Trouble → Type 0
-IsTrouble words source ReadFails = IsReduce words × Failed source × TookWithin source
+IsTrouble words source ReadFails = ((job : Job) × Asks words job) × Failed source × TookWithin source
 IsTrouble words source MemoryFails = TookWithin source
 
 abbrev pub trouble_line : Trouble → List ℕ
@@ -141,16 +185,16 @@ trouble_line MemoryFails = memory_line
 abbrev pub IsReason : List (List ℕ) → Change → List ℕ → Type 0
 IsReason words source line =
     ((line ≡ usage_line) × IsDue words source BadWords)
-    ⊎ (((why : Refusal) × (line ≡ refusal_line why) × IsDue words source (Refuses why))
+    ⊎ (((why : Why) × (line ≡ refusal_line why) × IsDue words source (Refuses why))
     ⊎ ((trouble : Trouble) × (line ≡ trouble_line trouble) × IsTrouble words source trouble))
 
 -- Writing the text failed: a front of it is on `out`, and the line of the write fault is on `err`, or a front of it where
 -- that failed too.
 pub record OutFails (words : List (List ℕ)) (source out err : Change) : Type 0 where
-  pub form : SoloForm
+  pub reply : Reply
   pub text : List ℕ
-  pub due : IsDue words source (Reduced form)
-  pub reduction : IsReductionOf form text
+  pub due : IsDue words source reply
+  pub text_is : IsTextOf reply text
   pub failed : Failed out
   pub front : PutFront text out
   pub told : Tried write_fault_line err
@@ -169,16 +213,17 @@ ShowsTrouble words source out err trouble = IsTrouble words source trouble × Pu
 
 -- What each status says.
 abbrev pub Says : List (List ℕ) → Change → Change → Change → Status → Type 0
-Says words source out err statuses.Done = (form : SoloForm) × (text : List ℕ) × IsDue words source (Reduced form) × IsReductionOf form text × Put text out × Put [] err
+Says words source out err statuses.Done = (reply : Reply) × (text : List ℕ) × IsDue words source reply × IsTextOf reply text × Put text out × Put [] err
 Says words source out err statuses.Words = IsDue words source BadWords × Put [] out × Put usage_line err
-Says words source out err statuses.Refused = (why : Refusal) × IsDue words source (Refuses why) × Put [] out × Put (refusal_line why) err
+Says words source out err statuses.Refused = (why : Why) × IsDue words source (Refuses why) × Put [] out × Put (refusal_line why) err
 Says words source out err statuses.ReadFault = ShowsTrouble words source out err ReadFails
 Says words source out err statuses.WriteFault = OutFails words source out err ⊎ ErrFails words source out err
 Says words source out err statuses.Memory = ShowsTrouble words source out err MemoryFails
 
 -- the status of a reply
 abbrev pub status_of : Reply → Status
-status_of (Reduced form) = statuses.Done
+status_of (Checked p) = statuses.Done
+status_of (Reduced p) = statuses.Done
 status_of BadWords = statuses.Words
 status_of (Refuses why) = statuses.Refused
 

@@ -1,13 +1,12 @@
 pub mod Answer
 pub mod Certificate
 pub mod CommandLine
+pub mod FormText
 pub mod Handed
 pub mod Narrow
 pub mod NarrowWork
 pub mod Order
-pub mod Solo
-pub mod SoloContent
-pub mod SoloReading
+pub mod Refusals
 pub mod Status
 pub mod Texts
 pub mod Uses

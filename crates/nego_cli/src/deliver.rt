@@ -47,7 +47,7 @@ pub fn deliver<O: Sink, E: Sink>(answer: &Answer, out: &mut O, err: &mut E) -> S
     ensures err_faults { E.faults err.old ≤ E.faults err.new }
 {
     match answer {
-        Answer::Reduced(text) => put_text(text, out, err),
+        Answer::Told(text) => put_text(text, out, err),
         Answer::BadWords => put_line(USAGE, Status::Words, err),
         Answer::Refused(line) => put_line(line, Status::Refused, err),
         Answer::ReadFault => put_line(b"read fault\n", Status::ReadFault, err),

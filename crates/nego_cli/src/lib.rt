@@ -5,13 +5,13 @@ mod answer;
 mod certificate;
 mod command;
 mod deliver;
-mod form;
+mod form_text;
 mod narrow;
 mod order;
-mod reduction;
-mod refusal;
+mod shape_text;
 mod splitting;
 mod status;
+mod telling;
 #[cfg(test)]
 mod tests;
 mod text;
@@ -22,7 +22,6 @@ mod words;
 mod words_tests;
 
 pub use command::{Command, WordsAnswer};
-pub use refusal::Refusal;
 pub use status::Status;
 pub use top::nego;
 pub use word_laws::number_words_are_decimals;

@@ -49,7 +49,7 @@ const BAD_WORDS: Row = Row {
     ..REDUCED
 };
 
-static ROWS: [Row; 33] = [
+static ROWS: [Row; 42] = [
     REDUCED,
     Row {
         input: b"nego 1\nagent a 2\natom only a\nout set\ncase : a:=1\nfirst only\nlast only\nend\nend\nmore",
@@ -70,14 +70,75 @@ static ROWS: [Row; 33] = [
         ..REDUCED
     },
     Row {
+        input: b"nego 1\nagent a 2\natom only a\nout flip\ncase a=0 : a:=1\ncase a=1 : a:=0\nfirst only\nlast only\nend\n",
+        out: b"certificate 1\nend\nsound uses 0\nsummary 1\nnode 0 base 0\nfinal flip 0\nend\n",
+        ..REDUCED
+    },
+    Row {
+        input: b"nego 1\nagent a 4\natom start a\nout go\ncase : a:=1\nnext stop a\natom stop a\nout ok\ncase : a:=a+1\nfirst start\nlast stop\nend\n",
+        out: b"certificate 1\nclose\nend\nsound uses 1\nsummary 1\nnode 0 base 0\nnode 1 base 1\nnode 2 then 0 1\nfinal ok 2\nend\n",
+        ..REDUCED
+    },
+    Row {
         input: b"nego 1\nagent a 3\natom start a\nout zero\ncase : a:=0\nnext stop a\nout keep\ncase :\nnext stop a\natom stop a\nout ok\ncase :\nfirst start\nlast stop\nend\n",
         out: b"certificate 1\nmerge 0 1\nclose\nend\nsound uses 2\nsummary 1\nnode 0 base 0\nnode 1 base 1\nnode 2 base 2\nnode 3 join 0 1\nnode 4 then 3 2\nfinal ok 4\nend\n",
         ..REDUCED
     },
     Row {
-        input: b"nego 1\nagent a 2\natom start a\nout go\ncase : a:=1\nnext stop a\natom stop a\nout accept\ncase :\nout reject\ncase : a:=0\nfirst start\nlast stop\nend\n",
+        input: b"nego 1\nagent a 2\natom start a\nout go\ncase : a:=*\nnext stop a\natom stop a\nout accept\ncase :\nout reject\ncase : a:=0\nfirst start\nlast stop\nend\n",
         out: b"certificate 1\nclose\nend\nsound uses 1\nsummary 1\nnode 0 base 0\nnode 1 base 1\nnode 2 base 2\nnode 3 then 0 1\nnode 4 then 0 2\nfinal accept 3\nfinal reject 4\nend\n",
         ..REDUCED
+    },
+    Row {
+        words: &[b"check"],
+        input: b"nego 1\nagent a 2\nagent b 2\nagent c 2\natom fork a b c\nout go\ncase :\nnext ab a b\nnext cc c\natom ab a b\nout x\ncase : a:=b b:=a\nnext join a b\natom cc c\nout y\ncase : c:=1\nnext join c\natom join a b c\nout ok\ncase :\nfirst fork\nlast join\nend\n",
+        out: b"agents 3\natoms 4\noutcomes 4\njoint 8\ndeterministic\nacyclic fork ab cc join\n",
+        ..REDUCED
+    },
+    Row {
+        words: &[b"check"],
+        input: b"nego 1\nagent a 4\natom turn a\nout again\ncase : a:=a+1\nnext turn a\nout stop\ncase :\nnext end a\natom end a\nout ok\ncase :\nfirst turn\nlast end\nend\n",
+        out: b"agents 1\natoms 2\noutcomes 3\njoint 4\ndeterministic\ncyclic turn\n",
+        ..REDUCED
+    },
+    Row {
+        words: &[b"check"],
+        input: b"nego 1\nagent a 2\natom start a\nout go\ncase :\nnext p a\nnext q a\natom p a\nout o\ncase :\nnext end a\natom q a\nout o\ncase :\nnext end a\natom end a\nout ok\ncase :\nfirst start\nlast end\nend\n",
+        out: b"agents 1\natoms 4\noutcomes 4\njoint 2\nnot deterministic start.go a\nacyclic start p q end\n",
+        ..REDUCED
+    },
+    Row {
+        input: b"nego 1\nagent a 2\natom start a\nout go\ncase :\nnext p a\nnext q a\natom p a\nout o\ncase :\nnext end a\natom q a\nout o\ncase :\nnext end a\natom end a\nout ok\ncase :\nfirst start\nlast end\nend\n",
+        err: b"refused NotDeterministic start.go a\n",
+        ..REFUSED
+    },
+    Row {
+        words: &[b"check"],
+        input: b"nego 1\nagent a 4\nagent b 2\natom only a b\nout reply\ncase a<3 : a:=b\nfirst only\nlast only\nend\n",
+        err: b"refused diagram line 5 NotTotal only.reply 3 0\n",
+        ..REFUSED
+    },
+    Row {
+        words: &[b"check"],
+        input: b"nego 1\nagent a 0\nagent b 2\natom only a b\nout reply\ncase a<3 : a:=b\nfirst only\nlast only\nend\n",
+        err: b"refused diagram line 2 ZeroSize a\n",
+        ..REFUSED
+    },
+    Row {
+        words: &[b"check"],
+        input: b"nego 1\nagent a 25\nagent b 41\natom only a b\nout reply\ncase a<3 : a:=b\nfirst only\nlast only\nend\n",
+        err: b"refused diagram line 3 JointTooLarge b\n",
+        ..REFUSED
+    },
+    Row {
+        input: b"nego 1\nagent a 2\nagent b 2\nagent c 2\natom fork a b c\nout go\ncase :\nnext ab a b\nnext cc c\natom ab a b\nout x\ncase : a:=b b:=a\nnext join a b\natom cc c\nout y\ncase : c:=1\nnext join c\natom join a b c\nout ok\ncase :\nfirst fork\nlast join\nend\n",
+        err: b"refused diagram not yet\n",
+        ..REFUSED
+    },
+    Row {
+        input: b"nego 1\nagent a 4\natom turn a\nout again\ncase : a:=a+1\nnext turn a\nout stop\ncase :\nnext end a\natom end a\nout ok\ncase :\nfirst turn\nlast end\nend\n",
+        err: b"refused diagram not yet\n",
+        ..REFUSED
     },
     Row {
         input: b"nego 3\nagent a 2\natom only a\nout set\ncase : a:=1\nfirst only\nlast only\nend\n",
@@ -105,38 +166,28 @@ static ROWS: [Row; 33] = [
         ..REFUSED
     },
     Row {
-        input: b"nego 1\nagent a 2\nagent b 1\natom only a\nout set\ncase : a:=1\nfirst only\nlast only\nend\n",
-        err: b"refused diagram not yet\n",
-        ..REFUSED
-    },
-    Row {
-        input: b"nego 1\nagent a 65\natom only a\nout set\ncase : a:=1\nfirst only\nlast only\nend\n",
-        err: b"refused diagram not yet\n",
+        input: b"nego 1\nagent a 2\natom only a\nout set\ncase : a:=1\nfirst other\nlast only\nend\n",
+        err: b"refused diagram line 6 Unknown other\n",
         ..REFUSED
     },
     Row {
         input: b"nego 1\nagent a 2\natom only a\nout set\ncase : a:=2\nfirst only\nlast only\nend\n",
-        err: b"refused diagram not yet\n",
+        err: b"refused diagram line 5 ValueTooLarge only.set a\n",
         ..REFUSED
     },
     Row {
-        input: b"nego 1\nagent a 2\natom only a\nout set\ncase : a:=*\nfirst only\nlast only\nend\n",
-        err: b"refused diagram not yet\n",
+        input: b"nego 1\nagent a 65\natom only a\nout set\ncase : a:=1\nfirst only\nlast only\nend\n",
+        err: b"refused diagram line 2 SizeTooLarge a\n",
+        ..REFUSED
+    },
+    Row {
+        input: b"nego 1\nagent a 2\nagent b 1\natom only a\nout set\ncase : a:=1\nfirst only\nlast only\nend\n",
+        err: b"refused diagram line 7 FirstLacks b\n",
         ..REFUSED
     },
     Row {
         input: b"nego 1\nagent a 2\natom only a\nout set\ncase a=0 : a:=1\nfirst only\nlast only\nend\n",
-        err: b"refused diagram not yet\n",
-        ..REFUSED
-    },
-    Row {
-        input: b"nego 1\nagent a 2\natom only a\nout set\ncase : a:=1\nfirst other\nlast only\nend\n",
-        err: b"refused diagram not yet\n",
-        ..REFUSED
-    },
-    Row {
-        input: b"nego 1\nagent a 3\natom start a\nout zero\ncase : a:=0\nnext stop a\nout keep\ncase :\nnext stop a\natom stop a\nout ok\ncase :\nfirst stop\nlast start\nend\n",
-        err: b"refused diagram not yet\n",
+        err: b"refused diagram line 4 NotTotal only.set 1\n",
         ..REFUSED
     },
     Row {
@@ -186,7 +237,7 @@ static ROWS: [Row; 33] = [
         ..BAD_WORDS
     },
     Row {
-        words: &[b"check"],
+        words: &[b"replay"],
         ..BAD_WORDS
     },
     Row {

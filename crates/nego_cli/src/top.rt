@@ -1,9 +1,8 @@
 //! The top call.
 
-ghost use Rattle.std.specs.Prelude.{◌≡◌, ◌⊎◌, ℕ, ◌≤◌, List};
+ghost use Rattle.std.specs.Prelude.{◌≡◌, ◌⊎◌, ℕ, ◌≤◌, List, None};
 ghost use Rattle.nego_io.specs.Outside.{Rose, WhereTold};
-ghost use Rattle.nego_cli.specs.Solo.{SoloForm};
-ghost use Rattle.nego_cli.specs.Answer.{Reply, Reduced, Causes, Failed, Says, IsFault, IsReduce, IsReductionOf, Put, change, status_of};
+ghost use Rattle.nego_cli.specs.Answer.{Reply, Causes, Failed, Says, IsFault, IsTextOf, Put, change, job_asked, status_of};
 
 use crate::Status;
 use crate::answer::find_answer;
@@ -27,18 +26,18 @@ pub fn nego<S: Source, O: Sink, E: Sink>(
     ensures says { Says words.now (change S.left S.faults source.old source.new) (change O.taken O.faults out.old out.new) (change E.taken E.faults err.old err.new) result }
 
     // Where the words and the input are the cause of a reply, its status is answered, or a fault, or want of memory.
-    ensures words_exactly { ¬ IsReduce words.now → (result ≡ Status.Words) ⊎ IsFault result }
+    ensures words_exactly { job_asked words.now ≡ None → (result ≡ Status.Words) ⊎ IsFault result }
     ensures exactly { WhereTold (S.left source.old) (S.left source.new) (λ input _. (reply : Reply) → Causes words.now input reply → (result ≡ status_of reply) ⊎ IsFault result) }
 
-    // Where the words are right, the input begins with a text of a form and no count rose, the answer is the reduction of
-    // the form, or want of memory.
-    ensures complete { WhereTold (S.left source.old) (S.left source.new) (λ input _. (form : SoloForm) → Causes words.now input (Reduced form) →
+    // Where the words and the input are the cause of a reply that is a text for `out`, and no count rose, the answer is
+    // this text, or want of memory.
+    ensures complete { WhereTold (S.left source.old) (S.left source.new) (λ input _. (reply : Reply) → Causes words.now input reply → status_of reply ≡ Status.Done →
         ¬ Failed (change S.left S.faults source.old source.new) → ¬ Failed (change O.taken O.faults out.old out.new) → ¬ Failed (change E.taken E.faults err.old err.new) →
-        ((result ≡ Status.Done) × ((text : List ℕ) × IsReductionOf form text × Put text (change O.taken O.faults out.old out.new))) ⊎ (result ≡ Status.Memory)) }
+        ((result ≡ Status.Done) × ((text : List ℕ) × IsTextOf reply text × Put text (change O.taken O.faults out.old out.new))) ⊎ (result ≡ Status.Memory)) }
 
     // What has no part in the answer stays as it is, whether it tells or not: the source where the words are no command,
     // `out` where no text is put there, and `err` where the text is on `out`.
-    ensures source_untouched { ¬ IsReduce words.now → source.new ≡ source.old }
+    ensures source_untouched { job_asked words.now ≡ None → source.new ≡ source.old }
     ensures out_untouched { (result ≡ Status.Done)
         ⊎ (((result ≡ Status.WriteFault) × Failed (change O.taken O.faults out.old out.new)) ⊎ (out.new ≡ out.old)) }
     ensures err_untouched { result ≡ Status.Done → err.new ≡ err.old }

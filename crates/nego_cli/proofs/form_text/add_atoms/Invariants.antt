@@ -1,0 +1,8 @@
+use Rattle.std.proofs.Common.{take}
+use Rattle.nego_expr.specs.SummaryText.{Appends}
+use Rattle.nego_cli.specs.FormText.{atom_words}
+use Rattle.nego_cli.proofs.form_text.add_atoms.Given as goal
+
+-- the names so far
+abbrev pub invariant-loop-n : goal.invariant-loop-n
+invariant-loop-n l = Appends l.initial.text l.text (atom_words l.d (take l.n-index l.atoms))

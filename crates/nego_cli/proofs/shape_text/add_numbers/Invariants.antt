@@ -1,0 +1,8 @@
+use Rattle.std.proofs.Common.{take}
+use Rattle.nego_expr.specs.SummaryText.{Appends}
+use Rattle.nego_cli.specs.Refusals.{value_words}
+use Rattle.nego_cli.proofs.shape_text.add_numbers.Given as goal
+
+-- the numbers so far
+abbrev pub invariant-loop-n : goal.invariant-loop-n
+invariant-loop-n l = Appends l.initial.text l.text (value_words (take l.n-index l.numbers))

@@ -1,0 +1,5 @@
+use Rattle.nego_cli.proofs.Told.{unshaped_off}
+use Rattle.nego_cli.proofs.telling.told_of.Goals as goal
+
+pub returns-in-Err-clause-err : goal.returns-in-Err-clause-err
+returns-in-Err-clause-err c = unshaped_off c.args.job c.args.part.now c.args.parsed.now c.in-Err.e c.unshaped.result c.requires c.in-Err.ensures.err c.unshaped.ensures

@@ -1,0 +1,9 @@
+use Rattle.nego_cli.specs.Refusals.{Misshapen, refusal_line}
+use Rattle.nego_cli.proofs.Told.{unshaped_line, joint_off}
+use Rattle.nego_cli.proofs.telling.unshaped.Goals as goal
+
+pub returns-in-Off : goal.returns-in-Off
+returns-in-Off c = unshaped_line c.args.p.now c.args.e.now c.in-Off.fault c.refused.result c.in-Off.is (c.refused.ensures (refusal_line (Misshapen c.args.p.now c.in-Off.fault)) c.misshapen.ensures)
+
+pub misshapen-requires : goal.misshapen-requires
+misshapen-requires c = joint_off c.args.p.now c.args.e.now c.in-Off.fault c.in-Off.is c.requires

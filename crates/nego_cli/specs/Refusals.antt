@@ -1,0 +1,97 @@
+-- Why an input is refused, and the lines that say so. Every line ends with a newline.
+use Rattle.std.specs.Prelude.{◌≡◌, ℕ, ◌<◌, List, [], ◌∷◌, ◌++◌, codes, decimal}
+use Rattle.nego_base.specs.declared.ids.OutcomeId.{OutcomeId}
+use Rattle.nego_base.specs.declared.fault.FaultKind.{FaultKind}
+use Rattle.nego_base.specs.declared.fault.FaultKind.TheVariants as kinds
+use Rattle.nego_base.specs.declared.fault.Fault.{Fault}
+use Rattle.nego_data.specs.Data.{data_count, split}
+use Rattle.nego_data.specs.Sizes.{AreSizes}
+use Rattle.nego_model.specs.Diagram.{PlainDiagram, agent_name, atom_name, outcome_name, atom_of}
+use Rattle.nego_reader.specs.declared.parsed.Parsed.{Parsed}
+use Rattle.nego_reader.specs.Content.{content_of}
+use Rattle.nego_shape.specs.declared.fault.Many.{Many}
+use Rattle.nego_shape.specs.declared.fault.Many.TheVariants as many
+use Rattle.nego_shape.specs.declared.fault.ShapeKind.{ShapeKind}
+use Rattle.nego_shape.specs.declared.fault.ShapeKind.TheVariants as shapes
+use Rattle.nego_shape.specs.declared.fault.ShapeFault.{ShapeFault}
+use Rattle.nego_shape.specs.Naming.{sizes_in, diagram_in}
+
+-- the diagram that the value of a text is
+abbrev pub diagram_of : Parsed → PlainDiagram
+diagram_of p = diagram_in (content_of p)
+
+-- Why: the part is too long, or has no end; the text is off its grammar; its value has a fault of shape; its diagram
+-- isn't deterministic, at this outcome and agent; or isn't of a form that is taken yet.
+pub data Why : Type 0 where
+  TooLong : Why
+  NoEnd : ℕ → Why
+  Off : Fault → Why
+  Misshapen : Parsed → ShapeFault → Why
+  Undetermined : PlainDiagram → ℕ → ℕ → Why
+  NotYet : Why
+
+-- the name of the kind of a fault
+abbrev pub kind_name : FaultKind → List ℕ
+kind_name kinds.Line = codes "Line"
+kind_name kinds.Byte = codes "Byte"
+kind_name kinds.Version = codes "Version"
+kind_name kinds.Word = codes "Word"
+kind_name kinds.Count = codes "Count"
+kind_name kinds.Name = codes "Name"
+kind_name kinds.Number = codes "Number"
+kind_name kinds.Case = codes "Case"
+kind_name kinds.Agent = codes "Agent"
+kind_name kinds.Many = codes "Many"
+
+-- an outcome: its atom's name, a dot and its own
+abbrev pub outcome_words : PlainDiagram → ℕ → List ℕ → List ℕ
+outcome_words d o rest = atom_name d (atom_of d o) ++ (codes "." ++ (outcome_name d o ++ rest))
+
+-- an outcome and an agent
+abbrev pub choice_words : PlainDiagram → ℕ → ℕ → List ℕ → List ℕ
+choice_words d o a rest = outcome_words d o (codes " " ++ (agent_name d a ++ rest))
+
+abbrev pub many_name : Many → List ℕ
+many_name many.Agents = codes "agents"
+many_name many.Atoms = codes "atoms"
+many_name many.Outcomes = codes "outcomes"
+
+-- the values, each behind a blank
+abbrev pub value_words : List ℕ → List ℕ → List ℕ
+value_words [] rest = rest
+value_words (value ∷ values) rest = codes " " ++ (decimal value ++ value_words values rest)
+
+-- Joint data that a fault of shape names are some of those of the agents' sizes, which are within their limits.
+abbrev pub HasJoint : Parsed → ShapeKind → Type 0
+HasJoint p kind = (o : OutcomeId) (d : ℕ) → kind ≡ shapes.NotTotal o d → AreSizes (sizes_in (content_of p)) × (d < data_count (sizes_in (content_of p)))
+
+-- the kind of a fault of shape and its arguments
+abbrev pub shape_words : PlainDiagram → ShapeKind → List ℕ → List ℕ
+shape_words d shapes.NoAgent rest = codes "NoAgent" ++ rest
+shape_words d (shapes.TooMany what) rest = codes "TooMany " ++ (many_name what ++ rest)
+shape_words d (shapes.Twice name) rest = codes "Twice " ++ (name ++ rest)
+shape_words d (shapes.Unknown name) rest = codes "Unknown " ++ (name ++ rest)
+shape_words d (shapes.NoParty n) rest = codes "NoParty " ++ (atom_name d n.0 ++ rest)
+shape_words d (shapes.NoOutcome n) rest = codes "NoOutcome " ++ (atom_name d n.0 ++ rest)
+shape_words d (shapes.FirstLacks a) rest = codes "FirstLacks " ++ (agent_name d a.0 ++ rest)
+shape_words d (shapes.LastLacks a) rest = codes "LastLacks " ++ (agent_name d a.0 ++ rest)
+shape_words d (shapes.NextMissing o a) rest = codes "NextMissing " ++ choice_words d o.0 a.0 rest
+shape_words d (shapes.NextStranger o a n) rest = codes "NextStranger " ++ choice_words d o.0 a.0 (codes " " ++ (atom_name d n.0 ++ rest))
+shape_words d (shapes.LastLeads o) rest = codes "LastLeads " ++ outcome_words d o.0 rest
+shape_words d (shapes.NotParty o a) rest = codes "NotParty " ++ choice_words d o.0 a.0 rest
+shape_words d (shapes.ZeroSize a) rest = codes "ZeroSize " ++ (agent_name d a.0 ++ rest)
+shape_words d (shapes.SizeTooLarge a) rest = codes "SizeTooLarge " ++ (agent_name d a.0 ++ rest)
+shape_words d (shapes.JointTooLarge a) rest = codes "JointTooLarge " ++ (agent_name d a.0 ++ rest)
+shape_words d (shapes.ValueTooLarge o a) rest = codes "ValueTooLarge " ++ choice_words d o.0 a.0 rest
+shape_words d (shapes.NotTotal o e) rest = codes "NotTotal " ++ outcome_words d o.0 (value_words (split d.sizes e) rest)
+
+-- the line of a refusal
+abbrev pub refusal_line : Why → List ℕ
+refusal_line TooLong = codes "refused diagram TooLong\n"
+refusal_line (NoEnd line) = codes "refused diagram line " ++ (decimal line ++ codes " NoEnd\n")
+refusal_line (Off fault) =
+    codes "refused diagram line " ++ (decimal fault.line ++ (codes " column " ++ (decimal fault.column ++ (codes " " ++ (kind_name fault.kind ++ codes "\n")))))
+refusal_line (Misshapen p fault) =
+    codes "refused diagram line " ++ (decimal fault.line ++ (codes " " ++ shape_words (diagram_of p) fault.kind (codes "\n")))
+refusal_line (Undetermined d o a) = codes "refused NotDeterministic " ++ choice_words d o a (codes "\n")
+refusal_line NotYet = codes "refused diagram not yet\n"
