@@ -30,7 +30,7 @@ pub use ids::{AgentId, AtomId, NodeId, OutcomeId};
 pub use line::{Line, Lines, Word};
 pub use memory::Memory;
 pub use name::is_name;
-pub use number::number_of;
+pub use number::{is_numeral, number_of};
 pub use op::Op;
 pub use reserved::Reserved;
 pub use scanning::scan;

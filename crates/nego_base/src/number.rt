@@ -17,8 +17,8 @@ pub fn number_of(bytes: &[u8]) -> Option<u32>
     }
 }
 
-/// Whether the bytes are digits without a leading zero, unless it is the only one.
-fn is_numeral(bytes: &[u8]) -> bool
+/// Whether the bytes are digits, one or more, of which the first is `0` only alone.
+pub fn is_numeral(bytes: &[u8]) -> bool
     ensures { result ≡ is_numeral bytes.now }
 {
     !bytes.is_empty() && all_digits(bytes) && (bytes.len() == 1 || bytes[0] != b'0')

@@ -1,12 +1,12 @@
 -- What a table relates once joint data, the offsets of a case, and cases are added one after another.
-use Rattle.std.proofs.Common.{◌≡◌, inl, inr, ℕ, ◌+◌, ◌-◌, min, ◌<◌, ◌≤◌, Bool, true, false, ◌&&◌, ◌||◌, ◌==◌, nat_lt, List, [], ◌∷◌, ◌++◌, length, set, take, get_or, slice_index, slice_index_or, Option, Some, None, IsTrue, refl, sym, subst, ap, ap₂, ◌∙◌, arith}
+use Rattle.std.proofs.Common.{◌≡◌, inl, inr, ℕ, ◌+◌, ◌-◌, min, ◌<◌, ◌≤◌, Bool, true, false, ◌&&◌, ◌||◌, ◌==◌, nat_lt, List, [], ◌∷◌, ◌++◌, length, take, get_or, slice_index, Option, Some, None, IsTrue, refl, sym, ap, ap₂, ◌∙◌, arith}
 use Rattle.std.proofs.lemmas.Bool.{cases_eq}
 use Rattle.std.proofs.lemmas.Bool.Decides.{nat_tests}
 use Rattle.std.proofs.lemmas.List.{take_more}
-use Rattle.std.proofs.lemmas.List.Folds.{list_any_more, list_any-append}
+use Rattle.std.proofs.lemmas.List.Folds.{list_any-append}
 use Rattle.std.proofs.lemmas.List.Elements.{All-head, All-tail, All-weaker}
 use Rattle.std.specs.List.{All, list_any, list_all}
-use Rattle.nego_base.specs.Members.{is_in, with_member}
+use Rattle.nego_base.specs.Members.{is_in}
 use Rattle.nego_base.proofs.Members.{All-member}
 use Rattle.nego_data.specs.declared.cases.Operand.{Operand}
 use Rattle.nego_data.specs.declared.cases.Operand.TheVariants as operands
@@ -21,7 +21,7 @@ use Rattle.nego_data.specs.Cases.{term_for, compares, operand_value, test_holds,
 use Rattle.nego_data.specs.CaseForm.{AreAmong, NamesOnly, OperandBelow, TermBelow, TestBelow, SetBelow, IsNamedBelow, operand_agents, term_agents}
 use Rattle.nego_data.specs.Given.{least_after}
 use Rattle.nego_data.proofs.Tuples.{at-tuple_of}
-use Rattle.nego_data.proofs.Tables.{related-with, same_tables, rows_of-table, rows_of-relates}
+use Rattle.nego_data.proofs.Tables.{same_tables, rows_of-table, rows_of-relates}
 
 -- ---- values that are the same at each agent
 
@@ -105,20 +105,6 @@ named_below_more count more case h named = record {
 }
 
 -- ---- additions to a table
-
--- one offset more
-pub related_offset : (first table : List (List ℕ)) (count d least i : ℕ) (offsets : List ℕ) → IsTable count table → d < count → i < length offsets →
-    ((c e : ℕ) → is_related table c e ≡ (is_related first c e || (c == d && list_any (λ o. least + o == e) (take i offsets)))) →
-    (c e : ℕ) → is_related (set table d (with_member (least + slice_index offsets i) (slice_index_or table d []))) c e
-    ≡ (is_related first c e || (c == d && list_any (λ o. least + o == e) (take (i + 1) offsets)))
-related_offset first table count d least i offsets ok h k before c e =
-    related-with table d (least + slice_index offsets i) c e (subst (λ n. d < n) (sym ok.rows) h)
-    ∙ ap (λ b. b || (c == d && e == least + slice_index offsets i)) (before c e)
-    ∙ joined (is_related first c e) (c == d) (list_any (λ o. least + o == e) (take i offsets)) (least + slice_index offsets i)
-    ∙ ap (λ b. is_related first c e || (c == d && b)) (sym (list_any_more (λ o. least + o == e) offsets i 0 k))
-  where
-    joined : (r s t : Bool) (n : ℕ) → ((r || (s && t)) || (s && e == n)) ≡ (r || (s && (t || n == e)))
-    joined r s t n = grind (arith, nat_tests)
 
 -- one joint data more to which a case relates what it does
 pub related_data : (first table new : List (List ℕ)) (count d : ℕ) (relation : ℕ → ℕ → Bool) →

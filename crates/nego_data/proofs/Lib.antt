@@ -3,6 +3,7 @@ pub mod Counts
 pub mod SizeFaults
 pub mod Tuples
 pub mod KeptSizes
+pub mod BitRows
 pub mod Tables
 pub mod Words
 pub mod Assigned

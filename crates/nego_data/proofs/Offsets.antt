@@ -1,6 +1,6 @@
 -- What a case relates, by the least values and the offsets of its free agents.
-use Rattle.std.proofs.Common.{◌≡◌, inl, inr, ℕ, ◌+◌, ◌<◌, ◌≤◌, Bool, true, false, cond, ◌&&◌, ◌||◌, ◌==◌, nat_lt, List, [], ◌∷◌, length, take, map, filter, slice_index, Option, Some, None, refl, sym, subst, ap, ◌∙◌, arith, eqb-true, eq-eqb, lt-ltb, ltb-true}
-use Rattle.std.proofs.lemmas.Bool.{and_parts, and_from, or_cases, or_left, or_right, cases_lt, cases_Bool, cond-true, cond-false, false≢true, true≢false}
+use Rattle.std.proofs.Common.{◌≡◌, inl, inr, ℕ, ◌+◌, ◌-◌, ◌<◌, ◌≤◌, Bool, true, false, cond, ◌&&◌, ◌||◌, ◌==◌, nat_lt, nat_le, List, [], ◌∷◌, length, take, map, filter, slice_index, Option, Some, None, refl, sym, subst, ap, ◌∙◌, arith, eqb-true, eq-eqb, lt-ltb, ltb-true}
+use Rattle.std.proofs.lemmas.Bool.{and_parts, and_from, or_cases, or_left, or_right, cases_lt, cases_Bool, cond-true, cond-false, false≢true, true≢false, leb-true, le-leb}
 use Rattle.std.proofs.lemmas.List.{length-take-le, get_or-take, get_or_past}
 use Rattle.std.proofs.lemmas.List.FromFn.{length-map-range_with_len, get_or-map-range_with_len}
 use Rattle.std.specs.List.{list_any, range_with_len}
@@ -11,6 +11,7 @@ use Rattle.nego_data.proofs.SomeMember.{any_at, any_from}
 use Rattle.nego_data.specs.declared.cases.Term.{Term}
 use Rattle.nego_data.specs.declared.cases.Term.TheVariants as terms
 use Rattle.nego_data.specs.declared.cases.Case.{Case}
+use Rattle.nego_data.specs.BitRows.{is_set, is_moved}
 use Rattle.nego_data.specs.Data.{data_count, split, joint}
 use Rattle.nego_data.specs.Sizes.{AreSizes, tuple_of}
 use Rattle.nego_data.specs.Cases.{term_for, covers, agent_follows, agents_follow, relates}
@@ -162,10 +163,6 @@ module _ (sizes : List ℕ) (case : Case) (free : List ℕ) (ok : AreSizes sizes
         joint-more (split sizes o) (value_of (moved o)) (length-split sizes o) (length-map-range_with_len (moved o) 0 (length sizes)) (λ a k. at-value_of (moved o) a k)
         ∙ ap (λ n. joint sizes new + n) (joint-split sizes o (offset_parts o m).0)
 
-    -- the least values and an offset make joint data
-    pub offset_fits : (o : ℕ) → is_in o (offsets_of sizes free) ≡ true → joint sizes new + o < data_count sizes
-    offset_fits o m = subst (λ n. n < data_count sizes) (moved-joint o m) (joint-below sizes (value_of (moved o)) (moved-values o m))
-
     -- the joint data that the least values and an offset make follow the assignments
     offset_follows : (o : ℕ) → is_in o (offsets_of sizes free) ≡ true → agents_follow 0 sizes case.sets old (split sizes (joint sizes new + o)) ≡ true
     offset_follows o m =
@@ -241,3 +238,26 @@ module _ (sizes : List ℕ) (case : Case) (free : List ℕ) (ok : AreSizes sizes
         inside s t true true g p q r = rw (p, q) r
         inside s t true false g p q r = rw (p, q) r
         inside s t false f g p q r = rw (p, q) refl
+
+-- the numbers that are above the least by an offset are the offsets' bits moved up
+pub moved_offsets : (sizes free row : List ℕ) (least e : ℕ) → ((o : ℕ) → is_set row o ≡ (is_offset free (tuple_of sizes o) && nat_lt o (data_count sizes))) →
+    is_moved row least e ≡ list_any (λ o. least + o == e) (offsets_of sizes free)
+moved_offsets sizes free row least e bits = same_tests (is_moved row least e) (list_any (λ o. least + o == e) (offsets_of sizes free)) there back
+  where
+    members : (o : ℕ) → is_set row o ≡ is_in o (offsets_of sizes free)
+    members o =
+        bits o ∙ ap (λ b. is_offset free (tuple_of sizes o) && b) (sym (is_in-range_zero o (data_count sizes)))
+        ∙ sym (is_in-filter (λ n. is_offset free (tuple_of sizes n)) o (range_with_len 0 (data_count sizes)))
+
+    there : is_moved row least e ≡ true → list_any (λ o. least + o == e) (offsets_of sizes free) ≡ true
+    there h =
+        let p = and_parts (nat_le least e) (is_set row (e - least)) h in
+        let above : least ≤ e = leb-true least e p.0 in
+        any_from (λ o. least + o == e) (offsets_of sizes free) (e - least) (sym (members (e - least)) ∙ p.1) (eq-eqb (least + (e - least)) e (omega arith))
+
+    back : list_any (λ o. least + o == e) (offsets_of sizes free) ≡ true → is_moved row least e ≡ true
+    back h =
+        let p = any_at (λ o. least + o == e) (offsets_of sizes free) h in
+        let sum : least + p.0 ≡ e = eqb-true (least + p.0) e p.2 in
+        let rest : p.0 ≡ e - least = omega (arith, sum) in
+        and_from (nat_le least e) (is_set row (e - least)) (le-leb least e (omega (arith, sum))) (ap (is_set row) (sym rest) ∙ members p.0 ∙ p.1)

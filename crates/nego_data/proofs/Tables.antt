@@ -1,18 +1,16 @@
 -- Laws of tables of joint data, and of the tables that tests and cases make.
-use Rattle.std.proofs.Common.{◌≡◌, inl, inr, ℕ, ◌+◌, ◌<◌, ◌≤◌, Bool, true, false, ◌&&◌, ◌||◌, ◌==◌, nat_lt, cond, suc, add-one, zero-add, List, [], ◌∷◌, ◌++◌, length, set, replicate, filter, slice_index_or, IsTrue, refl, sym, subst, ap, ap₂, ◌∙◌, arith, ltb-true, lt-ltb, eq-eqb}
-use Rattle.std.proofs.lemmas.Bool.{cond-true, cond-false, and_parts, cases_lt, cases_eq, ne_eqb}
-use Rattle.std.proofs.lemmas.Bool.Decides.{nat_tests}
-use Rattle.std.proofs.lemmas.List.{append-nil, get_or_past, get_or-replicate, length-replicate, length-set, get_or-set_same, get_or-set_other, ext_get_or}
+use Rattle.std.proofs.Common.{◌≡◌, inl, inr, ℕ, ◌<◌, ◌≤◌, Bool, true, false, ◌&&◌, nat_lt, List, [], length, replicate, filter, slice_index_or, IsTrue, refl, sym, subst, ap, ◌∙◌, arith, ltb-true, lt-ltb}
+use Rattle.std.proofs.lemmas.Bool.{and_parts, cases_lt}
+use Rattle.std.proofs.lemmas.List.{get_or_past, get_or-replicate, length-replicate, ext_get_or}
 use Rattle.std.proofs.lemmas.List.FromFn.{length-map-range_with_len, get_or-map-range_with_len}
-use Rattle.std.proofs.lemmas.List.Elements.{filter-append, All-from_get_or, All-nil, All-replicate, All-set}
+use Rattle.std.proofs.lemmas.List.Elements.{All-from_get_or, All-nil, All-replicate}
 use Rattle.std.specs.List.{All, list_any, range_with_len}
-use Rattle.nego_base.specs.Bits.{range-suc}
-use Rattle.nego_base.specs.Members.{is_in, with_member, IsRising, IsRisingBelow}
+use Rattle.nego_base.specs.Members.{is_in, IsRising, IsRisingBelow}
 use Rattle.nego_data.specs.declared.cases.Case.{Case}
 use Rattle.nego_data.specs.Data.{data_count, split}
 use Rattle.nego_data.specs.Tables.{IsTable, is_related, rows_by}
 use Rattle.nego_data.specs.Cases.{relates, case_relates, rows_of}
-use Rattle.nego_base.proofs.Members.{All-member, All-members, is_in-filter, is_in-range_zero, is_in-with, is_in_none, rises-filter, rises-range, same_below, with-rises}
+use Rattle.nego_base.proofs.Members.{All-member, All-members, is_in-filter, is_in-range_zero, is_in_none, rises-filter, rises-range, same_below}
 use Rattle.nego_base.proofs.BoolLaws.{same_tests}
 
 -- a row of a table has joint data alone
@@ -40,15 +38,6 @@ empty-table count = record {
   on_data = All-replicate (All (λ e. e < count)) count [] (All-nil (λ e. e < count));
 }
 
--- a table in which one more joint data is related to some is a table
-pub IsTable-with : (count : ℕ) (table : List (List ℕ)) (d e : ℕ) → IsTable count table → d < count → e < count → IsTable count (set table d (with_member e (slice_index_or table d [])))
-IsTable-with count table d e ok h k =
-    let row = with-rises count e (slice_index_or table d []) k (row-rises_below count table d ok h) in record {
-      rows = length-set table d (with_member e (slice_index_or table d [])) ∙ ok.rows;
-      rise = All-set IsRising table d (with_member e (slice_index_or table d [])) row.rising ok.rise;
-      on_data = All-set (All (λ f. f < count)) table d (with_member e (slice_index_or table d [])) row.below ok.on_data;
-    }
-
 -- nothing is related in a table of empty rows
 pub empty-related : (count d e : ℕ) → is_related (replicate count []) d e ≡ false
 empty-related count d e = ap (is_in e) (row d)
@@ -59,44 +48,7 @@ empty-related count d e = ap (is_in e) (row d)
       | inr h ↦ get_or_past (replicate count []) d [] (subst (λ n. n ≤ d) (sym (length-replicate {A = List ℕ} count [])) h)
     ]
 
--- what is related once d is related to e too
-pub related-with : (table : List (List ℕ)) (d e c f : ℕ) → d < length table →
-    is_related (set table d (with_member e (slice_index_or table d []))) c f ≡ (is_related table c f || (c == d && f == e))
-related-with table d e c f h = elim (cases_eq c d) [
-  | inl same ↦
-      ap (is_in f) (ap (λ n. slice_index_or (set table d (with_member e (slice_index_or table d []))) n []) same ∙ get_or-set_same table d (with_member e (slice_index_or table d [])) [] h)
-      ∙ is_in-with f e (slice_index_or table d [])
-      ∙ turned (is_in f (slice_index_or table d [])) ∙ ap₂ (λ n b. is_in f (slice_index_or table n []) || (b && f == e)) (sym same) (sym (eq-eqb c d same))
-  | inr other ↦
-      ap (is_in f) (get_or-set_other table d c (with_member e (slice_index_or table d [])) [] other)
-      ∙ untouched (is_related table c f) ∙ ap (λ b. is_related table c f || (b && f == e)) (sym (ne_eqb c d other))
-]
-  where
-    turned : (b : Bool) → (e == f || b) ≡ (b || (true && f == e))
-    turned b = grind (arith, nat_tests)
-
-    untouched : (b : Bool) → b ≡ (b || (false && f == e))
-    untouched true = refl
-    untouched false = refl
-
 -- ---- a filter of a range
-
-filter-range_push : (test : ℕ → Bool) (n : ℕ) → filter test (range_with_len 0 (n + 1)) ≡ filter test (range_with_len 0 n) ++ cond (test n) (n ∷ []) []
-filter-range_push test n =
-    let one_more : n + 1 ≡ suc n = add-one n in
-    ap (λ m. filter test (range_with_len 0 m)) one_more
-    ∙ ap (filter test) (range-suc 0 n ∙ ap (λ m. range_with_len 0 n ++ m ∷ []) (zero-add n))
-    ∙ filter-append test (range_with_len 0 n) (n ∷ [])
-
--- one number more, which passes the test
-pub filter-range_more : (test : ℕ → Bool) (n : ℕ) → test n ≡ true → filter test (range_with_len 0 (n + 1)) ≡ filter test (range_with_len 0 n) ++ n ∷ []
-filter-range_more test n h =
-    filter-range_push test n ∙ ap (λ xs. filter test (range_with_len 0 n) ++ xs) (cond-true (test n) (n ∷ []) [] h)
-
--- one number more, which doesn't pass the test
-pub filter-range_less : (test : ℕ → Bool) (n : ℕ) → test n ≡ false → filter test (range_with_len 0 (n + 1)) ≡ filter test (range_with_len 0 n)
-filter-range_less test n h =
-    filter-range_push test n ∙ ap (λ xs. filter test (range_with_len 0 n) ++ xs) (cond-false (test n) (n ∷ []) [] h) ∙ append-nil (filter test (range_with_len 0 n))
 
 -- the numbers of a range that are in a set are the set
 pub filter-members : (count : ℕ) (row : List ℕ) → IsRisingBelow count row → filter (λ e. is_in e row) (range_with_len 0 count) ≡ row

@@ -1,14 +1,18 @@
 -- Laws of tables that are kept in words.
-use Rattle.std.proofs.Common.{◌≡◌, ◌⊎◌, inl, inr, ℕ, ◌+◌, ◌*◌, ◌/◌, ◌%◌, ◌^◌, ◌<◌, ◌≤◌, Bool, true, false, ◌&&◌, ◌||◌, ◌==◌, List, [], length, set, replicate, slice_index, slice_index_or, refl, sym, subst, ap, ap₂, ◌∙◌, arith, eq-eqb}
-use Rattle.std.specs.Prelude.{bit_and, bit_or}
-use Rattle.std.specs.Int.{bit_at, w64}
-use Rattle.std.proofs.lemmas.Bool.{cases_eq, cases_lt, ne_eqb}
-use Rattle.std.proofs.lemmas.List.{get_or-replicate, get_or_past, length-replicate, get_or-set_same, get_or-set_other}
-use Rattle.std.proofs.lemmas.Nat.{mul-add-lt, same_from_place, div-add-mod'}
-use Rattle.std.proofs.lemmas.Nat.Bits.{shr_and_one, bit_at-zero, bit_at_set_same, bit_at_set_other}
-use Rattle.nego_base.specs.Members.{with_member}
+use borrow.Rule.Slice.PartMut.{put_mid}
+use Rattle.std.proofs.Common.{◌≡◌, ◌⊎◌, inl, inr, ℕ, ◌+◌, ◌-◌, ◌*◌, ◌/◌, ◌%◌, ◌^◌, ◌<◌, ◌≤◌, Bool, true, false, ◌&&◌, ◌||◌, ◌==◌, List, [], length, replicate, slice_index, refl, sym, subst, ap, ap₂, ◌∙◌, arith, eq-eqb}
+use Rattle.std.specs.Prelude.{bit_and}
+use Rattle.std.specs.Int.{bit_at}
+use Rattle.std.specs.List.{between}
+use Rattle.std.proofs.lemmas.Bool.{cases_lt, cases_order, ne_eqb}
+use Rattle.std.proofs.lemmas.List.{get_or-replicate, get_or_past, get_or-take, get_or-drop, length-append, length-drop, length-replicate, length-take}
+use Rattle.std.proofs.lemmas.List.Edits.{get_or-between}
+use Rattle.std.proofs.lemmas.Nat.{mul-add-lt, row_fits}
+use Rattle.std.proofs.lemmas.Nat.Bits.{shr_and_one, bit_at-zero}
+use Rattle.std.proofs.lemmas.Slice.{between-put_mid, drop-put_mid, take-put_mid_below}
+use Rattle.nego_data.specs.BitRows.{is_set}
 use Rattle.nego_data.specs.Tables.{IsTable, is_related, row_words, word_place, has_bit, rows_of_words, IsPacked}
-use Rattle.nego_data.proofs.Tables.{length-rows_by, rows_by-related, rows_by-table, same_tables, empty-table, empty-related, related-with, IsTable-with}
+use Rattle.nego_data.proofs.Tables.{length-rows_by, rows_by-related, rows_by-table, same_tables, empty-table, empty-related}
 
 -- the word of a joint data's bit is one of the row's
 pub word_in_row : (count e : ℕ) → e < count → e / 64 < row_words count
@@ -31,58 +35,6 @@ at-zeros n k = elim (cases_lt k n) [
 zeros-has_bit : (count n d e : ℕ) → has_bit count (replicate n 0) d e ≡ false
 zeros-has_bit count n d e =
     ap (λ b. b == 1) (ap (λ word. bit_at word (e % 64)) (at-zeros n (word_place count d e)) ∙ bit_at-zero (e % 64))
-
--- places of bits that are one are of the same joint data
-same_bit : (count d e c f : ℕ) → e < count → f < count → word_place count c f ≡ word_place count d e → f % 64 ≡ e % 64 → (c ≡ d) × (f ≡ e)
-same_bit count d e c f h k same_word same_place =
-    let p = same_from_place c (f / 64) d (e / 64) (row_words count) (word_in_row count f k) (word_in_row count e h) same_word in
-    (p.0, sym (div-add-mod' f 64) ∙ ap₂ (λ q r. q * 64 + r) p.1 same_place ∙ div-add-mod' e 64)
-
--- which bits are set once one more is
-has_bit-set : (count : ℕ) (words : List ℕ) (d e c f : ℕ) → word_place count d e < length words → e < count → f < count →
-    has_bit count (set words (word_place count d e) (bit_or (slice_index words (word_place count d e)) (1 * 2 ^ (e % 64) % 2 ^ 64))) c f ≡ (has_bit count words c f || (c == d && f == e))
-has_bit-set count words d e c f here h k = by_word (cases_eq (word_place count c f) (word_place count d e))
-  where
-    place : ℕ
-    place = word_place count d e
-
-    word : ℕ
-    word = slice_index words place
-
-    new : ℕ
-    new = bit_or word (1 * 2 ^ (e % 64) % 2 ^ 64)
-
-    in_word : e % 64 < 64
-    in_word = omega arith
-
-    -- the bit isn't that of d and e
-    apart : ((c ≡ d) × (f ≡ e) → ⊥) → has_bit count (set words place new) c f ≡ has_bit count words c f → has_bit count (set words place new) c f ≡ (has_bit count words c f || (c == d && f == e))
-    apart other same = same ∙ more (has_bit count words c f) (elim (cases_eq c d) [
-      | inl p ↦ ap₂ ◌&&◌ (eq-eqb c d p) (ne_eqb f e (λ q. other (p, q)))
-      | inr p ↦ ap (λ b. b && f == e) (ne_eqb c d p)
-    ])
-      where
-        more : (b : Bool) → (c == d && f == e) ≡ false → b ≡ (b || (c == d && f == e))
-        more true q = refl
-        more false q = sym q
-
-    by_place : word_place count c f ≡ place → (f % 64 ≡ e % 64) ⊎ (f % 64 ≡ e % 64 → ⊥) → has_bit count (set words place new) c f ≡ (has_bit count words c f || (c == d && f == e))
-    by_place same_word (inl same_place) =
-        let one = same_bit count d e c f h k same_word same_place in
-        ap (λ b. b == 1) (ap₂ (λ w j. bit_at w j) (ap (λ n. slice_index (set words place new) n) same_word ∙ get_or-set_same words place new 0 here) same_place ∙ bit_at_set_same w64 word (e % 64) in_word)
-        ∙ set_now (has_bit count words c f) (ap₂ ◌&&◌ (eq-eqb c d one.0) (eq-eqb f e one.1))
-      where
-        set_now : (b : Bool) → (c == d && f == e) ≡ true → true ≡ (b || (c == d && f == e))
-        set_now true q = refl
-        set_now false q = sym q
-    by_place same_word (inr other_place) = apart (λ p. other_place (ap (λ n. n % 64) p.1))
-        (ap (λ b. b == 1) (ap (λ w. bit_at w (f % 64)) (ap (λ n. slice_index (set words place new) n) same_word ∙ get_or-set_same words place new 0 here)
-        ∙ bit_at_set_other w64 word (e % 64) in_word (f % 64) other_place ∙ ap (λ n. bit_at (slice_index words n) (f % 64)) (sym same_word)))
-
-    by_word : (word_place count c f ≡ place) ⊎ (word_place count c f ≡ place → ⊥) → has_bit count (set words place new) c f ≡ (has_bit count words c f || (c == d && f == e))
-    by_word (inl same_word) = by_place same_word (cases_eq (f % 64) (e % 64))
-    by_word (inr other_word) = apart (λ p. other_word (ap₂ (word_place count) p.0 p.1))
-        (ap (λ w. bit_at w (f % 64) == 1) (get_or-set_other words place (word_place count c f) new 0 other_word))
 
 -- ---- the table that is kept in words
 
@@ -107,22 +59,86 @@ pub rows_of_zeros : (count n : ℕ) → rows_of_words count (replicate n 0) ≡ 
 rows_of_zeros count n = same_tables count (rows_of_words count (replicate n 0)) (replicate count []) (rows_of_words-table count (replicate n 0)) (empty-table count) (λ d e h k.
     rows_of_words-related count (replicate n 0) d e h k ∙ zeros-has_bit count n d e ∙ sym (empty-related count d e))
 
--- one more bit in the words is one more joint data in a row
-pub rows_of_words-set : (count : ℕ) (words : List ℕ) (d e : ℕ) → IsPacked count words → d < count → e < count →
-    rows_of_words count (set words (word_place count d e) (bit_or (slice_index words (word_place count d e)) (1 * 2 ^ (e % 64) % 2 ^ 64)))
-    ≡ set (rows_of_words count words) d (with_member e (slice_index_or (rows_of_words count words) d []))
-rows_of_words-set count words d e packed h k = same_tables count (rows_of_words count new) (set table d (with_member e (slice_index_or table d []))) (rows_of_words-table count new)
-    (IsTable-with count table d e (rows_of_words-table count words) h k) (λ c f l m.
-    rows_of_words-related count new c f l m
-    ∙ has_bit-set count words d e c f (word_place-below count d e words packed h k) k m
-    ∙ ap (λ b. b || (c == d && f == e)) (sym (rows_of_words-related count words c f l m))
-    ∙ sym (related-with table d e c f (subst (λ n. d < n) (sym (length-rows_of_words count words)) h)))
-  where
-    table : List (List ℕ)
-    table = rows_of_words count words
+-- ---- words with another row
 
-    new : List ℕ
-    new = set words (word_place count d e) (bit_or (slice_index words (word_place count d e)) (1 * 2 ^ (e % 64) % 2 ^ 64))
+-- the words of a row are among the words
+pub row_in_words : (count : ℕ) (words : List ℕ) (d : ℕ) → IsPacked count words → d < count → d * row_words count + row_words count ≤ length words
+row_in_words count words d packed h =
+    let fits = row_fits d (row_words count) count (row_words count) h (omega arith) in
+    omega (arith, fits, packed.enough)
+
+-- how many words there are
+length-with_row : (words row : List ℕ) (start : ℕ) → start + length row ≤ length words → length (put_mid start (length row) words row) ≡ length words
+length-with_row words row start h = simp (length-append, length-take, length-drop) (omega arith)
+
+module _ (count : ℕ) (words row : List ℕ) (d : ℕ) (packed : IsPacked count words) (h : d < count) (as_long : length row ≡ row_words count) where
+  -- where the row begins and ends
+  abbrev start : ℕ
+  start = d * row_words count
+
+  abbrev past : ℕ
+  past = d * row_words count + row_words count
+
+  -- the words with the row as that of d
+  abbrev new : List ℕ
+  new = put_mid (d * row_words count) (row_words count) words row
+
+  start_within : start ≤ length words
+  start_within = let fits = row_in_words count words d packed h in omega (arith, fits)
+
+  -- the words of d are the row's
+  in_row : (e : ℕ) → e < count → slice_index new (word_place count d e) ≡ slice_index row (e / 64)
+  in_row e k =
+      let within = word_in_row count e k in
+      sym (get_or-between new start past (e / 64) 0 (omega (arith, within)))
+      ∙ ap (λ xs. slice_index xs (e / 64)) (between-put_mid start (row_words count) words row past start_within (omega (arith, as_long)))
+
+  -- the other words are as before
+  off_row : (n : ℕ) → (n < start) ⊎ (past ≤ n) → slice_index new n ≡ slice_index words n
+  off_row n (inl before) =
+      sym (get_or-take start new n 0 before) ∙ ap (λ xs. slice_index xs n) (take-put_mid_below start (row_words count) words row start (omega arith) start_within)
+      ∙ get_or-take start words n 0 before
+  off_row n (inr after) =
+      let sum : past + (n - past) ≡ n = omega (arith, after) in
+      ap (slice_index new) (sym sum) ∙ sym (get_or-drop past new (n - past) 0)
+      ∙ ap (λ xs. slice_index xs (n - past)) (drop-put_mid start (row_words count) words row past (omega arith) start_within as_long)
+      ∙ get_or-drop past words (n - past) 0 ∙ ap (slice_index words) sum
+
+  -- a word of another row is outside the row
+  apart : (c e : ℕ) → e < count → (c < d) ⊎ (d < c) → (word_place count c e < start) ⊎ (past ≤ word_place count c e)
+  apart c e k (inl less) = inl (let fits = row_fits c (row_words count) d (row_words count) less (omega arith) in let within = word_in_row count e k in omega (arith, fits, within))
+  apart c e k (inr more) = inr (let fits = row_fits d (row_words count) c (row_words count) more (omega arith) in omega (arith, fits))
+
+  -- which bits are set, where the row is the old one with some added
+  pub has_bit-with_row : (added : ℕ → Bool) → ((e : ℕ) → e / 64 < row_words count → is_set row e ≡ (is_set (between start past words) e || added e)) →
+      (c e : ℕ) → c < count → e < count → has_bit count new c e ≡ (has_bit count words c e || (c == d && added e))
+  has_bit-with_row added bits c e l k = elim (cases_order c d) [
+    | inl same ↦
+        let within = word_in_row count e k in
+        ap (λ n. has_bit count new n e) same ∙ ap (λ w. bit_at w (e % 64) == 1) (in_row e k) ∙ bits e within
+        ∙ ap₂ ◌||◌
+        (ap (λ w. bit_at w (e % 64) == 1) (get_or-between words start past (e / 64) 0 (omega (arith, within))) ∙ ap (λ n. has_bit count words n e) (sym same))
+        (sym (ap (λ b. b && added e) (eq-eqb c d same)))
+    | inr other ↦
+        ap (λ w. bit_at w (e % 64) == 1) (off_row (word_place count c e) (apart c e k other)) ∙ untouched (has_bit count words c e)
+        ∙ ap (λ b. has_bit count words c e || (b && added e)) (sym (ne_eqb c d (differ c other)))
+  ]
+    where
+      differ : (c : ℕ) → (c < d) ⊎ (d < c) → c ≡ d → ⊥
+      differ c (inl less) same = omega (arith, less, same)
+      differ c (inr more) same = omega (arith, more, same)
+
+      untouched : (b : Bool) → b ≡ (b || (false && added e))
+      untouched true = refl
+      untouched false = refl
+
+  -- they are rows too
+  pub packed-with_row : IsPacked count new
+  packed-with_row = record {
+    few = packed.few;
+    enough = ap (λ n. length (put_mid start n words row)) (sym as_long)
+        ∙ length-with_row words row start (let fits = row_in_words count words d packed h in omega (arith, fits, as_long)) ∙ packed.enough;
+  }
 
 -- ---- a table whose words are looked at
 
@@ -148,14 +164,6 @@ module _ (count : ℕ) (words : List ℕ) (table : List (List ℕ)) (packed : Is
       ∙ sym (rows_of_words-related count words d e from_below to_below)
       ∙ ap (λ rows. is_related rows d e) seen
 
-  -- the table with e in the row of d
-  pub set_seen : (word : ℕ) → word ≡ slice_index words (word_place count d e) →
-      rows_of_words count (set words (word_place count d e) (bit_or word (1 * 2 ^ (e % 64) % 2 ^ 64))) ≡ set table d (with_member e (slice_index_or table d []))
-  set_seen word is =
-      ap (λ n. rows_of_words count (set words (word_place count d e) (bit_or n (1 * 2 ^ (e % 64) % 2 ^ 64)))) is
-      ∙ rows_of_words-set count words d e packed from_below to_below
-      ∙ ap (λ rows. set rows d (with_member e (slice_index_or rows d []))) seen
-
   -- the table is one
   pub table_seen : IsTable (length table) table
   table_seen = subst (λ n. IsTable n table) (sym length_seen) (subst (IsTable count) seen (rows_of_words-table count words))
@@ -167,3 +175,40 @@ rows_seen count words table seen = sym (ap length (sym seen) ∙ length-rows_of_
 -- and is one
 pub is_table_seen : (count : ℕ) (words : List ℕ) (table : List (List ℕ)) → rows_of_words count words ≡ table → IsTable (length table) table
 is_table_seen count words table seen = subst (λ n. IsTable n table) (rows_seen count words table seen) (subst (IsTable count) seen (rows_of_words-table count words))
+
+-- a table whose words are looked at, with some added to the row of d
+module _ (count : ℕ) (words : List ℕ) (table : List (List ℕ)) (packed : IsPacked count words) (seen : rows_of_words count words ≡ table) (d : ℕ) (h : d < length table) (size : ℕ) (is : size ≡ row_words count) where
+  d_below : d < count
+  d_below = let rows = rows_seen count words table seen in omega (arith, h, rows)
+
+  -- the words of the row are there
+  pub row_there : d * size + size ≤ length words
+  row_there = subst (λ n. d * n + n ≤ length words) (sym is) (row_in_words count words d packed d_below)
+
+  module _ (row : List ℕ) (as_long : length row ≡ size) where
+    -- the words with the row
+    abbrev after : List ℕ
+    after = put_mid (d * size) (d * size + size - d * size) words row
+
+    after-is : after ≡ put_mid (d * row_words count) (row_words count) words row
+    after-is =
+        let rest : d * size + size - d * size ≡ size = omega arith in
+        ap (λ k. put_mid (d * size) k words row) rest ∙ ap (λ n. put_mid (d * n) n words row) is
+
+    -- how many they are
+    pub length-after : length after ≡ length words
+    length-after = ap length after-is ∙ (packed-with_row count words row d packed d_below (as_long ∙ is)).enough ∙ sym packed.enough
+
+    -- what their table relates
+    pub related_after : (added : ℕ → Bool) →
+        ((e : ℕ) → e / 64 < size → is_set row e ≡ (is_set (between (d * size) (d * size + size) words) e || added e)) →
+        (c e : ℕ) → c < length table → e < length table → is_related (rows_of_words count after) c e ≡ (is_related table c e || (c == d && added e))
+    related_after added bits c e l k =
+        let rows = rows_seen count words table seen in
+        let c_below : c < count = omega (arith, l, rows) in
+        let e_below : e < count = omega (arith, k, rows) in
+        let same_bits = subst (λ n. (f : ℕ) → f / 64 < n → is_set row f ≡ (is_set (between (d * n) (d * n + n) words) f || added f)) is bits in
+        rows_of_words-related count after c e c_below e_below
+        ∙ ap (λ ws. has_bit count ws c e) after-is
+        ∙ has_bit-with_row count words row d packed d_below (as_long ∙ is) added same_bits c e c_below e_below
+        ∙ ap (λ b. b || (c == d && added e)) (sym (rows_of_words-related count words c e c_below e_below) ∙ ap (λ rows. is_related rows c e) seen)

@@ -1,6 +1,7 @@
 pub mod Data
 pub mod Sizes
 pub mod Kept
+pub mod BitRows
 pub mod Tables
 pub mod Cases
 pub mod CaseForm

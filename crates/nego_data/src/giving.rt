@@ -1,7 +1,7 @@
 //! What a case gives the agents: the values that it fixes, and the agents that may have any.
-ghost use Rattle.std.specs.Prelude.{◌≡◌, ℕ, ◌<◌, slice_index, length, filter, All, IfOk};
-ghost use Rattle.std.specs.List.{range_with_len};
+ghost use Rattle.std.specs.Prelude.{◌≡◌, ℕ, ◌<◌, ◌&&◌, nat_lt, slice_index, length, All};
 ghost use Rattle.nego_base.specs.Members.{is_in};
+ghost use Rattle.nego_data.specs.BitRows.{is_set};
 ghost use Rattle.nego_data.specs.Data.{data_count};
 ghost use Rattle.nego_data.specs.Sizes.{AreBelow, tuple_of};
 ghost use Rattle.nego_data.specs.Cases.{term_for};
@@ -9,9 +9,9 @@ ghost use Rattle.nego_data.specs.CaseForm.{AssignsBelow, AssignsOnce, FitsSize, 
 ghost use Rattle.nego_data.specs.Given.{least_given, least_after, is_any, is_free, is_offset};
 
 use crate::Sizes;
+use crate::bit_row::BitRow;
 use crate::cases::{Case, Term};
-use nego_base::{AgentId, AgentSet, Memory, Seq};
-use std::alloc::Global;
+use nego_base::{AgentId, AgentSet};
 
 /// The least values that the agents may have after the case.
 pub(crate) fn least_values(sizes: &Sizes, case: &Case, old: &[u16; 16]) -> [u16; 16]
@@ -75,16 +75,16 @@ fn is_any(term: Term) -> bool
 }
 
 /// The joint data in which no agent but the free ones has a value above 0.
-pub(crate) fn offsets(alloc: Global, sizes: &Sizes, free: AgentSet) -> Result<Seq<u16>, Memory>
-    ensures { IfOk result (λ offsets. offsets ≡ filter (λ o. is_offset free (tuple_of sizes.now o)) (range_with_len 0 (data_count sizes.now))) }
+pub(crate) fn offsets(sizes: &Sizes, free: AgentSet) -> BitRow
+    ensures { (o : ℕ) → is_set result.words o ≡ (is_offset free (tuple_of sizes.now o) && nat_lt o (data_count sizes.now)) }
 {
-    let mut offsets = Seq::new(alloc);
+    let mut offsets = BitRow::none();
     for o in 0..sizes.all() {
         if is_offset(free, &sizes.split(o)) {
-            offsets.push(o)?;
+            offsets.insert(o);
         }
     }
-    Ok(offsets)
+    offsets
 }
 
 /// Whether no agent but the free ones has a value above 0.

@@ -1,6 +1,5 @@
 //! The table of an outcome's cases.
-ghost use Rattle.std.specs.Prelude.{◌≡◌, ◌≢◌, ℕ, ◌+◌, ◌<◌, ◌≤◌, ◌||◌, ◌&&◌, ◌==◌, [], ◌∷◌, length, All, IsTrue, IfOk, IfErr, OnOk};
-ghost use Rattle.std.specs.List.{list_any};
+ghost use Rattle.std.specs.Prelude.{◌≡◌, ◌≢◌, ℕ, ◌<◌, ◌||◌, [], ◌∷◌, length, All, IsTrue, IfOk, IfErr};
 ghost use Rattle.nego_data.specs.Data.{data_count};
 ghost use Rattle.nego_data.specs.Sizes.{AreSizes};
 ghost use Rattle.nego_data.specs.Tables.{IsTable, is_related};
@@ -62,43 +61,28 @@ pub fn table_of(
     }
     let mut table = Table::empty(alloc, all)?;
     for case in cases {
-        add_case(alloc, &mut table, sizes, case)?;
+        add_case(&mut table, sizes, case);
     }
     Ok(table)
 }
 
 /// Relates what the case relates too, in a table of the sizes' joint data.
-fn add_case(alloc: Global, table: &mut Table, sizes: &Sizes, case: &Case) -> Result<(), Memory>
+fn add_case(table: &mut Table, sizes: &Sizes, case: &Case)
     requires named { IsNamedBelow (length sizes.now) case.now }
     requires once { AssignsOnce case.now }
     requires fits { AssignsBelow sizes.now case.now }
     requires table { IsTable (data_count sizes.now) table.old }
     ensures table { IsTable (data_count sizes.now) table.new }
-    ensures related { OnOk result ((d e : ℕ) → d < data_count sizes.now → e < data_count sizes.now →
-        is_related table.new d e ≡ (is_related table.old d e || relates sizes.now (case.now ∷ []) d e)) }
+    ensures related { (d e : ℕ) → d < data_count sizes.now → e < data_count sizes.now →
+        is_related table.new d e ≡ (is_related table.old d e || relates sizes.now (case.now ∷ []) d e) }
 {
     let all = sizes.all();
-    let offsets = offsets(alloc, sizes, free_agents(case))?;
+    let offsets = offsets(sizes, free_agents(case));
     for d in 0..all {
         let old = sizes.split(d);
         if covers(case, &old) {
             let least = sizes.joint(&least_values(sizes, case, &old));
-            relate_all(table, d, least, offsets.as_slice());
+            table.relate_all(d, least, &offsets);
         }
-    }
-    Ok(())
-}
-
-/// Relates d to the joint data that are above the least by an offset.
-fn relate_all(table: &mut Table, d: u16, least: u16, offsets: &[u16])
-    requires few { length table.old ≤ 1024 }
-    requires from { d < length table.old }
-    requires to { All (λ o. least + o < length table.old) offsets.now }
-    requires table { IsTable (length table.old) table.old }
-    ensures table { IsTable (length table.old) table.new }
-    ensures related { (c e : ℕ) → is_related table.new c e ≡ (is_related table.old c e || (c == d && list_any (λ o. least + o == e) offsets.now)) }
-{
-    for offset in offsets {
-        table.relate(d, least + *offset);
     }
 }

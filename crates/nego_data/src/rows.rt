@@ -1,14 +1,13 @@
 //! Tables of joint data, kept as rows of bits.
-ghost use Rattle.std.specs.Prelude.{◌≡◌, ◌+◌, ◌*◌, ◌/◌, ◌%◌, ◌<◌, ◌≤◌, ◌-◌, [], length, replicate, slice_get, slice_index_or, slice_set, IfOk};
-ghost use Rattle.nego_base.specs.Members.{is_in, with_member};
-ghost use Rattle.nego_data.specs.Tables.{IsTable, row_words, word_place};
+ghost use Rattle.std.specs.Prelude.{◌≡◌, ℕ, ◌+◌, ◌*◌, ◌/◌, ◌%◌, ◌<◌, ◌≤◌, ◌-◌, ◌&&◌, ◌||◌, ◌==◌, [], length, replicate, slice_get, slice_index_or, IfOk};
+ghost use Rattle.nego_base.specs.Members.{is_in};
+ghost use Rattle.nego_data.specs.BitRows.{is_moved};
+ghost use Rattle.nego_data.specs.Tables.{IsTable, is_related, row_words, word_place};
 
+use crate::bit_row::{BitRow, WORD_BITS};
 use nego_base::Memory;
 use std::alloc::Global;
 use std::marker::Model;
-
-/// The bits of a word.
-const WORD_BITS: usize = 64;
 
 /// What an outcome relates: for each joint data a row of bits, one for each joint data. Contracts see it as the list
 /// that gives for each joint data the rising list of those to which it is related.
@@ -39,14 +38,16 @@ impl Table {
         Ok(Table { count, words })
     }
 
-    /// Relates d to e.
-    pub(crate) fn relate(&mut self, d: u16, e: u16)
-        requires from { d < length self.old }
-        requires to { e < length self.old }
-        ensures { self.new ≡ slice_set self.old d (with_member e (slice_index_or self.old d [])) }
+    /// Relates d to the joint data that are above the least by an offset.
+    pub(crate) fn relate_all(&mut self, d: u16, least: u16, offsets: &BitRow)
+        requires { d < length self.old }
+        ensures table { IsTable (length self.old) self.new }
+        ensures related { (c e : ℕ) → c < length self.old → e < length self.old →
+            is_related self.new c e ≡ (is_related self.old c e || (c == d && is_moved offsets.now.words least e)) }
     {
-        let place = word_place(self.count, d, e);
-        self.words[place] |= 1 << (e as usize % WORD_BITS);
+        let words = row_words(self.count);
+        let start = d as usize * words;
+        offsets.add_moved(least, &mut self.words[start..start + words]);
     }
 
     /// Whether d is related to e. Both are below the number of joint data.

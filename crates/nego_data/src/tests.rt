@@ -1,6 +1,7 @@
 //! Sizes and tables once, with memory at hand: that they answer, and not always want of memory.
-ghost use Rattle.std.specs.Prelude.{◌≡◌, [], ◌∷◌, length, IfOk};
-ghost use Rattle.nego_data.specs.CaseForm.{FitsSize, AreAmong, term_agents};
+ghost use Rattle.std.specs.Prelude.{◌≡◌, ℕ, List, [], ◌∷◌, length, IfOk};
+ghost use Rattle.nego_data.specs.Data.{data_count};
+ghost use Rattle.nego_data.specs.CaseForm.{FitsSize, AreAmong, NamesOnly, AssignsOnce, AssignsBelow, term_agents};
 
 use crate::cases::{Case, Operand, Set, Term, Test};
 use crate::{SizeFault, Sizes, Table, TableFault, table_of};
@@ -66,6 +67,116 @@ fn has(table: &Table, all: u16, pairs: &[(u16, u16)]) -> bool
     true
 }
 
+/// What is expected of the row of d: how many it has, the k-th of them, and whether e is one. In this order they are
+/// d, the count, k, the k-th, e, and whether e is one.
+type Expected = (u16, u16, u16, Option<u16>, u16, bool);
+
+/// What is expected of the three cases below over sizes 64 and 16.
+const FULL: [Expected; 6] = [
+    (37, 64, 40, Some(654), 655, false),
+    (45, 79, 47, Some(527), 512, true),
+    (45, 79, 79, None, 1023, true),
+    (49, 1, 0, Some(48), 49, false),
+    (814, 17, 1, Some(1008), 815, true),
+    (1008, 1, 0, Some(1023), 1022, false),
+];
+
+/// What is expected of them over sizes 60 and 17, where 17 values in a row stand astride the words.
+const ASTRIDE: [Expected; 5] = [
+    (39, 60, 59, Some(1017), 65, true),
+    (64, 76, 48, Some(576), 575, true),
+    (64, 76, 76, None, 578, false),
+    (864, 18, 0, Some(866), 1003, true),
+    (1019, 17, 16, Some(1019), 1002, false),
+];
+
+/// The case `a<b : a:=* b:=b+9`.
+fn spread(alloc: Global) -> Result<Case, Memory>
+    ensures names { IfOk result (NamesOnly (0 ∷ 1 ∷ [])) }
+    ensures once { IfOk result AssignsOnce }
+    ensures fits { IfOk result (λ case. (sizes : List ℕ) → AssignsBelow sizes case) }
+{
+    let tests = [Test {
+        agent: A,
+        op: Op::Lt,
+        right: Operand::Value(B),
+    }];
+    let sets = [
+        Set {
+            agent: A,
+            term: Term::Any,
+        },
+        Set {
+            agent: B,
+            term: Term::Plus(B, 9),
+        },
+    ];
+    case_of(alloc, &tests, &sets)
+}
+
+/// The case `a>=b : b:=a-5`.
+fn lowered(alloc: Global) -> Result<Case, Memory>
+    ensures names { IfOk result (NamesOnly (0 ∷ 1 ∷ [])) }
+    ensures once { IfOk result AssignsOnce }
+    ensures fits { IfOk result (λ case. (sizes : List ℕ) → AssignsBelow sizes case) }
+{
+    let tests = [Test {
+        agent: A,
+        op: Op::Ge,
+        right: Operand::Value(B),
+    }];
+    let sets = [Set {
+        agent: B,
+        term: Term::Minus(A, 5),
+    }];
+    case_of(alloc, &tests, &sets)
+}
+
+/// The case `b>12 : a:=a+30 b:=*`.
+fn raised(alloc: Global) -> Result<Case, Memory>
+    ensures names { IfOk result (NamesOnly (0 ∷ 1 ∷ [])) }
+    ensures once { IfOk result AssignsOnce }
+    ensures fits { IfOk result (λ case. (sizes : List ℕ) → AssignsBelow sizes case) }
+{
+    let tests = [Test {
+        agent: B,
+        op: Op::Gt,
+        right: Operand::Number(12),
+    }];
+    let sets = [
+        Set {
+            agent: A,
+            term: Term::Plus(A, 30),
+        },
+        Set {
+            agent: B,
+            term: Term::Any,
+        },
+    ];
+    case_of(alloc, &tests, &sets)
+}
+
+/// The table of two agents, of the three cases.
+fn wide(alloc: Global, sizes: &Sizes) -> Result<Table, TableFault>
+    requires { length sizes.now ≡ 2 }
+    ensures { IfOk result (λ table. length table ≡ data_count sizes.now) }
+{
+    let cases = [spread(alloc)?, lowered(alloc)?, raised(alloc)?];
+    table_of(alloc, sizes, AgentSet::none().with(A).with(B), &cases)
+}
+
+/// Whether the table of so many joint data is as expected.
+fn is_as(table: &Table, all: u16, expected: &Expected) -> bool
+    requires { length table.now ≡ all }
+{
+    let (d, count, k, nth, e, related) = *expected;
+    d < all
+        && e < all
+        && table.count(d) == count
+        && table.nth(d, k) == nth
+        && table.related(d, e) == related
+}
+
 #[test]
 fn sizes_and_tables(rt: HostRuntime) -> Result<(), Fail> {
     faults(&rt);
@@ -78,6 +189,16 @@ fn sizes_and_tables(rt: HostRuntime) -> Result<(), Fail> {
     assert!(rt; has(&less, 4, &[(0, 0), (1, 0), (2, 0), (3, 1)]));
     let sizes = Sizes::new(&[4, 2])?;
     assert!(rt; partial(rt.alloc(), &sizes).err() == Some(TableFault::NotTotal(6)));
+    Ok(())
+}
+
+/// Tables whose rows have 16 words, which they fill or not.
+#[test]
+fn rows_of_many_words(rt: HostRuntime) -> Result<(), Fail> {
+    let full = wide(rt.alloc(), &Sizes::new(&[64, 16])?)?;
+    assert!(rt; FULL.iter().all(|row| is_as(&full, 1024, row)));
+    let astride = wide(rt.alloc(), &Sizes::new(&[60, 17])?)?;
+    assert!(rt; ASTRIDE.iter().all(|row| is_as(&astride, 1020, row)));
     Ok(())
 }
 

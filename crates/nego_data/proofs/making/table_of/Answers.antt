@@ -28,11 +28,6 @@ returns-in_err-table-clause-err c =
     let covered : AllCovered c.args.sizes.now c.args.cases.now = none_found-covered c.args.sizes.now c.args.cases.now (sym c.first_uncovered.ensures ∙ c.in_default.is) in
     search rules
 
-pub returns-in_err-add_case-clause-err : goal.returns-in_err-add_case-clause-err
-returns-in_err-add_case-clause-err c =
-    let covered : AllCovered c.args.sizes.now c.args.cases.now = none_found-covered c.args.sizes.now c.args.cases.now (sym c.first_uncovered.ensures ∙ c.in_default.is) in
-    search rules
-
 pub returns-clause-covered : goal.returns-clause-covered
 returns-clause-covered c = none_found-covered c.args.sizes.now c.args.cases.now (sym c.first_uncovered.ensures ∙ c.in_default.is)
 

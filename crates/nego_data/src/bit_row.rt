@@ -1,0 +1,64 @@
+//! Sets of joint data, kept as rows of bits.
+ghost use Rattle.std.specs.Prelude.{◌≡◌, ℕ, ◌/◌, ◌%◌, ◌<◌, ◌≤◌, false, ◌||◌, ◌==◌, length};
+ghost use Rattle.std.specs.Int.{bit_at};
+ghost use Rattle.nego_data.specs.BitRows.{is_set, is_moved, word_below};
+
+/// The bits of a word.
+pub(crate) const WORD_BITS: usize = 64;
+
+/// A set of joint data as a row of bits: bit `e % 64` of word `e / 64` tells whether e is in it.
+#[derive(Clone, Copy, Debug)]
+pub(crate) struct BitRow {
+    words: [u64; 16],
+}
+
+impl BitRow {
+    /// The empty set.
+    pub(crate) fn none() -> BitRow
+        ensures { (e : ℕ) → is_set result.words e ≡ false }
+    {
+        BitRow { words: [0; 16] }
+    }
+
+    /// Puts e into the set.
+    pub(crate) fn insert(&mut self, e: u16)
+        requires { e < 1024 }
+        ensures { (f : ℕ) → is_set self.new.words f ≡ (is_set self.old.words f || f == e) }
+    {
+        self.words[e as usize / WORD_BITS] |= 1 << (e as usize % WORD_BITS);
+    }
+
+    /// Adds the set, each number in it moved up, to the set that a row of words is.
+    pub(crate) fn add_moved(&self, by: u16, row: &mut [u64])
+        requires { length row.old ≤ 16 }
+        ensures { (e : ℕ) → e / 64 < length row.old → is_set row.new e ≡ (is_set row.old e || is_moved self.now.words by e) }
+    {
+        for (place, word) in row.iter_mut().enumerate() {
+            *word |= self.moved_word(place, by as usize);
+        }
+    }
+
+    /// The word at the place once the bits are moved up: its high bits come from one word, and its low bits from the
+    /// one before.
+    fn moved_word(&self, place: usize, by: usize) -> u64
+        requires { place < 16 }
+        ensures { (e : ℕ) → e / 64 ≡ place → (bit_at result (e % 64) == 1) ≡ is_moved self.now.words by e }
+    {
+        let bits = by % WORD_BITS;
+        let high = self.word_below(place, by / WORD_BITS);
+        let low = self.word_below(place, by / WORD_BITS + 1);
+        (high << bits) | (low >> 1 >> (WORD_BITS - 1 - bits))
+    }
+
+    /// The word so many places below this one; 0 where the row begins above it.
+    fn word_below(&self, place: usize, down: usize) -> u64
+        requires { place < 16 }
+        ensures { result ≡ word_below self.now.words place down }
+    {
+        if down <= place {
+            self.words[place - down]
+        } else {
+            0
+        }
+    }
+}
