@@ -23,3 +23,7 @@ pub mod Followed
 mod Examples
 pub mod PairLaws
 pub mod OutcomeNumbers
+pub mod Ranks
+pub mod Ahead
+pub mod Branching
+pub mod Closable

@@ -1,0 +1,57 @@
+-- The ranks that a forward order gives to atoms: each edge leads to an atom of a greater rank.
+use Rattle.std.proofs.Common.{◌≡◌, ◌≢◌, ⊎_elim, ℕ, ◌+◌, ◌<◌, ◌==◌, if◌then◌else◌, List, [], ◌∷◌, length, get_or, IsTrue, suc, refl, sym, subst, ap, ◌∙◌, arith, eq-eqb, ne_eqb}
+use Rattle.std.proofs.lemmas.Bool.{cases_eq, cases_order, cond-true, cond-false}
+use Rattle.nego_base.specs.Members.{is_in}
+use Rattle.nego_base.proofs.Members.{is_in-cases, is_in_none}
+use Rattle.nego_model.specs.Negotiation.{Negotiation, IsNegotiation}
+use Rattle.nego_model.specs.Acyclic.{IsEdge, IsForwardOrder}
+
+-- the first place of a number in a list
+abbrev pub rank_in : List ℕ → ℕ → ℕ
+rank_in [] n = 0
+rank_in (m ∷ order) n = if m == n then 0 else rank_in order n + 1
+
+-- a member stands at its place
+pub ranked : (n : ℕ) (order : List ℕ) → IsTrue (is_in n order) → (rank_in order n < length order) × ((d : ℕ) → get_or order (rank_in order n) d ≡ n)
+ranked n [] h = absurd (is_in_none n [] refl h)
+ranked n (m ∷ order) h = ⊎_elim here (later (ranked n order)) (cases_eq m n)
+  where
+    At : ℕ → Type 0
+    At k = (k < length (m ∷ order)) × ((d : ℕ) → get_or (m ∷ order) k d ≡ n)
+
+    here : m ≡ n → At (rank_in (m ∷ order) n)
+    here e = subst At (sym (cond-true (m == n) 0 (rank_in order n + 1) (eq-eqb m n e))) (omega arith, λ d. e)
+
+    later : (IsTrue (is_in n order) → (rank_in order n < length order) × ((d : ℕ) → get_or order (rank_in order n) d ≡ n)) → m ≢ n → At (rank_in (m ∷ order) n)
+    later more other =
+        let k = more (⊎_elim (λ e. absurd (other (sym e))) (λ t. t) (is_in-cases n m order h)) in
+        let below : rank_in order n < length order = k.0 in
+        let next : suc (rank_in order n) ≡ rank_in order n + 1 = omega arith in
+        subst At (sym (cond-false (m == n) 0 (rank_in order n + 1) (ne_eqb m n other))) (subst At next (omega (arith, below), λ d. k.1 d))
+
+module _ (nego : Negotiation) (ok : IsNegotiation nego) (order : List ℕ) (goes : IsForwardOrder nego order) where
+  -- an atom has a place in the order
+  pub atom-ranked : (n : ℕ) → IsTrue (is_in n nego.atoms) → (rank_in order n < length order) × ((d : ℕ) → get_or order (rank_in order n) d ≡ n)
+  atom-ranked n h = ranked n order (goes.atoms n ∙ h)
+
+  -- an edge leads to an atom of a greater rank
+  pub edge-ranked : (m n : ℕ) → IsEdge nego m n → rank_in order m < rank_in order n
+  edge-ranked m n edge = ⊎_elim (λ e. absurd (loop e)) (λ h. ⊎_elim (λ l. l) (λ l. absurd (back l)) h) (cases_order (rank_in order m) (rank_in order n))
+    where
+      from : (rank_in order m < length order) × ((d : ℕ) → get_or order (rank_in order m) d ≡ m)
+      from = atom-ranked m edge.own.0
+
+      to : (rank_in order n < length order) × ((d : ℕ) → get_or order (rank_in order n) d ≡ n)
+      to = atom-ranked n (ok.next_party m edge.outcome edge.agent n edge.own edge.leads).0
+
+      loop : rank_in order m ≡ rank_in order n → ⊥
+      loop e =
+          let same : m ≡ n = sym (from.1 0) ∙ (ap (λ k. get_or order k 0) e ∙ to.1 0) in
+          let P : ℕ → Type 0 = λ k. IsEdge nego k k → ⊥ in
+          subst P (from.1 0) (goes.no_loop (rank_in order m) 0 from.0) (subst (IsEdge nego m) (sym same) edge)
+
+      back : rank_in order n < rank_in order m → ⊥
+      back l =
+          let P : ℕ → Type 0 = λ k. IsEdge nego k (get_or order (rank_in order n) 0) → ⊥ in
+          let Q : ℕ → Type 0 = λ k. IsEdge nego m k → ⊥ in
+          subst Q (to.1 0) (subst P (from.1 0) (goes.forward (rank_in order n) (rank_in order m) 0 l from.0)) edge
