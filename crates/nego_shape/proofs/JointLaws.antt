@@ -1,9 +1,9 @@
 -- Joint data that a fault tells are joint data of the text's sizes.
-use Rattle.std.proofs.Common.{◌≡◌, ℕ, ◌+◌, ◌*◌, ◌<◌, Bool, true, false, not, cond, nat_lt, nat_le, ◌==◌, List, [], ◌∷◌, length, map, slice_get, get_or, Option, Some, None, refl, sym, subst, ap, ◌∙◌, arith}
+use Rattle.std.proofs.Common.{◌≡◌, ℕ, ◌+◌, ◌*◌, ◌<◌, Bool, true, false, not, cond, nat_lt, ◌==◌, List, [], ◌∷◌, length, map, slice_get, Option, Some, None, refl, subst}
 use Rattle.std.specs.Prelude.{IfSome, position}
 use Rattle.std.specs.List.{list_any, range_with_len}
 use Rattle.std.specs.Option.{option_or, option_map}
-use Rattle.std.proofs.lemmas.List.FromFn.{get_or-range_with_len, length-range_with_len}
+use Rattle.std.proofs.lemmas.List.FromFn.{length-range_with_len}
 use Rattle.std.proofs.lemmas.List.Quantifiers.{position-Some}
 use Rattle.nego_base.specs.declared.ids.AgentId.{AgentId}
 use Rattle.nego_data.specs.declared.cases.Case.{Case}
@@ -24,7 +24,7 @@ use Rattle.nego_shape.specs.declared.fault.ShapeKind.TheVariants as kinds
 use Rattle.nego_shape.specs.Answer.{AreJointIn}
 use Rattle.nego_shape.specs.Firsts.{first_among, first_numbered}
 use Rattle.nego_shape.specs.Naming.{sizes_in, cases_in}
-use Rattle.nego_shape.specs.Faults.{fault_on, no_agent, past, out_names, too_many, twice, twice_in, unknown, unknown_in, no_party_at, no_party, no_outcome_at, no_outcome, lacks, party_fault, is_last, is_missing, is_stranger, is_outside, is_overfull, agent_fault, atom_number, case_line, next_missing_at, next_stranger_on, last_leads_at, not_party_on, value_too_large_on, broken_at, broken_among, broken_from, next_fault, broken, zero_size_at, zero_size, size_too_large_at, size_too_large, joint_from, joint_too_large, size_fault, inner_fault, form_fault, first_uncovered, not_total_at, not_total_among, not_total_from, not_total}
+use Rattle.nego_shape.specs.Faults.{fault_on, no_agent, past, out_names, too_many, twice, twice_in, unknown, unknown_in, no_party_at, no_party, no_outcome_at, no_outcome, lacks, party_fault, is_last, is_missing, is_stranger, is_outside, is_overfull, agent_fault, atom_number, case_line, next_stranger_on, not_party_on, value_too_large_on, broken_at, broken_among, broken_from, next_fault, broken, zero_size_at, zero_size, size_too_large_at, size_too_large, joint_from, joint_too_large, size_fault, inner_fault, form_fault, first_uncovered, not_total_at, not_total_among, not_total_from, not_total}
 
 module _ {B : Type 0} (P : B → Type 0) where
   or_has : (o rest : Option B) → IfSome o P → IfSome rest P → IfSome (option_or o rest) P

@@ -10,6 +10,7 @@ mod Walking
 pub mod BrokenLaws
 pub mod FirstLaws
 pub mod Gathering
+pub mod Mentioned
 pub mod Misses
 pub mod OutNames
 pub mod Outs
@@ -28,3 +29,11 @@ pub mod SoundShape
 pub mod SpelledNames
 pub mod TotalLaws
 pub mod JointLaws
+pub mod FaultlessCases
+pub mod FaultlessDeclared
+pub mod FaultlessNames
+pub mod FaultlessPlaces
+pub mod FaultlessRules
+pub mod FaultlessSearches
+pub mod FaultlessShape
+pub mod FaultlessSizes

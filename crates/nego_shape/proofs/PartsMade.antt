@@ -34,6 +34,9 @@ plain-parts_from c k (atom ∷ atoms) = ap (λ xs. atom_in c atom ∷ xs) (plain
 pub names_read : (agents : List PAgent) → map (λ agent. agent.name.text) agents ≡ map (λ agent. agent.name) (map agent_content agents)
 names_read agents = sym (map-map (λ (agent : AgentContent). agent.name) agent_content agents)
 
+pub atoms_read : (atoms : List PAtom) → map (λ atom. atom.name.text) atoms ≡ map (λ atom. atom.name) (map atom_content atoms)
+atoms_read atoms = sym (map-map (λ (atom : AtomContent). atom.name) atom_content atoms)
+
 pub sizes_read : (agents : List PAgent) → map (λ agent. agent.size) agents ≡ map (λ agent. agent.size) (map agent_content agents)
 sizes_read agents = sym (map-map (λ (agent : AgentContent). agent.size) agent_content agents)
 

@@ -1,16 +1,17 @@
 -- Places of names, and the agents and atoms that names are.
-use Rattle.std.proofs.Common.{◌≡◌, ◌≢◌, ⊎_elim, ℕ, suc, ◌+◌, ◌<◌, ◌==◌, Bool, true, false, not, cond, List, [], ◌∷◌, length, Some, slice_get, refl, sym, subst, ap, ◌∙◌, arith, eqb-true, eq-eqb}
+use Rattle.std.proofs.Common.{◌≡◌, ◌≢◌, ⊎_elim, ℕ, suc, ◌+◌, ◌<◌, ◌==◌, Bool, true, false, not, cond, List, [], ◌∷◌, length, Option, Some, None, slice_get, refl, sym, subst, ap, ◌∙◌, arith, eqb-true, eq-eqb}
 use Rattle.std.proofs.lemmas.Bool.{and_parts, and_from, or_left, or_right, or_cases, false≢true, ltb-true, lt-ltb}
 use Rattle.std.proofs.lemmas.Option.{same_Some}
-use Rattle.std.proofs.lemmas.List.Elements.{All-head, All-tail}
+use Rattle.std.proofs.lemmas.List.Elements.{All-nil, All-head, All-tail}
 use Rattle.std.proofs.lemmas.Slice.Eq.{bytes_eq-Decides}
 use Rattle.std.specs.List.{All, list_any, range_with_len}
+use Rattle.std.specs.Option.{option_map_or}
 use Rattle.std.specs.Str.{bytes_eq}
 use Rattle.nego_base.specs.Members.{is_in, IsRising, IsRisingBelow}
 use Rattle.nego_base.proofs.Members.{is_in-filter, is_in-range_zero, rises-filter, rises-range, All-members, is_in-head}
 use Rattle.nego_base.proofs.BoolLaws.{passing_item}
-use Rattle.nego_reader.specs.Content.{Content, OutContent, NextContent}
-use Rattle.nego_shape.specs.Naming.{place_of, places_of, agent_names, atom_names, parties_in, leads_to, next_atoms}
+use Rattle.nego_reader.specs.Content.{Content, AtomContent, OutContent, NextContent}
+use Rattle.nego_shape.specs.Naming.{place_of, places_of, agent_names, atom_names, parties_in, parties_at, leads_to, next_atoms}
 use Rattle.nego_shape.specs.Shaped.{IsDeclared}
 
 -- a declared name stands at its place
@@ -47,6 +48,14 @@ module _ (c : Content) where
         let p = and_parts (is_in a (places_of names (agent_names c))) (is_in a (range_with_len 0 (length c.agents))) (sym h ∙ m) in
         ltb-true a (length c.agents) (sym (is_in-range_zero a (length c.agents)) ∙ p.1));
   }
+
+  -- so do those of an atom
+  pub parties_at-below : (n : ℕ) → All (λ a. a < length c.agents) (parties_at c n)
+  parties_at-below n = go (slice_get c.atoms n)
+    where
+      go : (o : Option AtomContent) → All (λ a. a < length c.agents) (option_map_or (λ (atom : AtomContent). parties_in c atom.parties) o [])
+      go None = All-nil (λ a. a < length c.agents)
+      go (Some atom) = (parties_in-rises atom.parties).below
 
   -- an agent among the places is a party
   pub in_parties_in : (a : ℕ) (names : List (List ℕ)) → a < length c.agents → is_in a (places_of names (agent_names c)) ≡ true → is_in a (parties_in c names) ≡ true

@@ -1,14 +1,13 @@
 -- What the search for a name finds.
-use Rattle.std.proofs.Common.{◌≡◌, ℕ, ◌+◌, ◌≤◌, ◌==◌, ◌||◌, Bool, true, false, not, cond, nat_lt, List, [], ◌∷◌, length, map, Option, Some, None, refl, sym, ap, ◌∙◌, arith}
+use Rattle.std.proofs.Common.{◌≡◌, ℕ, ◌+◌, ◌≤◌, ◌==◌, ◌||◌, Bool, true, false, not, cond, nat_lt, List, [], ◌∷◌, length, map, Option, Some, None, refl, ap, ◌∙◌, arith}
 use Rattle.std.proofs.lemmas.Bool.{ltb-false}
+use Rattle.std.proofs.lemmas.Cmp.{nat_list_eq_equiv}
 use Rattle.std.specs.List.{position, position_or_len, list_any}
 use Rattle.std.specs.Option.{unwrap_or}
 use Rattle.std.specs.Str.{bytes_eq}
 use Rattle.nego_base.specs.declared.line.Word.{Word}
 use Rattle.nego_base.specs.Members.{is_in}
-use Rattle.nego_reader.specs.declared.parsed.PAgent.{PAgent}
-use Rattle.nego_reader.specs.declared.parsed.PAtom.{PAtom}
-use Rattle.nego_reader.specs.Content.{AgentContent, AtomContent, agent_content, atom_content, texts}
+use Rattle.nego_reader.specs.Content.{texts}
 use Rattle.nego_shape.specs.Naming.{place_of, places_of}
 
 -- the first place among mapped items
@@ -17,7 +16,7 @@ position_or_len-map p f [] = refl
 position_or_len-map p f (x ∷ xs) = ap (λ n. cond (not (p (f x))) (1 + n) 0) (position_or_len-map p f xs)
 
 -- it is at most the count
-position_or_len-within : {X : Type 0} (p : X → Bool) (xs : List X) → position_or_len p xs ≤ length xs
+pub position_or_len-within : {X : Type 0} (p : X → Bool) (xs : List X) → position_or_len p xs ≤ length xs
 position_or_len-within p [] = omega arith
 position_or_len-within p (x ∷ xs) = go (p x) (position_or_len-within p xs)
   where
@@ -33,19 +32,9 @@ sought p xs o n e l = ap (λ x. unwrap_or x n) e ∙ go (nat_lt (position_or_len
     go true q = refl
     go false q = let past : length xs ≤ position_or_len p xs = ltb-false (position_or_len p xs) (length xs) q in let within = position_or_len-within p xs in omega (arith, l, past, within)
 
-pub agent_sought : (agents : List PAgent) (name : List ℕ) (o : Option ℕ) (n : ℕ) → o ≡ position (λ agent. bytes_eq agent.name.text name) agents → n ≡ length agents →
-    unwrap_or o n ≡ place_of name (map (λ agent. agent.name) (map agent_content agents))
-agent_sought agents name o n e l =
-    sought (λ (agent : PAgent). bytes_eq agent.name.text name) agents o n e l
-    ∙ sym (position_or_len-map (λ other. bytes_eq other name) (λ (agent : AgentContent). agent.name) (map agent_content agents)
-    ∙ position_or_len-map (λ (agent : AgentContent). bytes_eq agent.name name) agent_content agents)
-
-pub atom_sought : (atoms : List PAtom) (name : List ℕ) (o : Option ℕ) (n : ℕ) → o ≡ position (λ atom. bytes_eq atom.name.text name) atoms → n ≡ length atoms →
-    unwrap_or o n ≡ place_of name (map (λ atom. atom.name) (map atom_content atoms))
-atom_sought atoms name o n e l =
-    sought (λ (atom : PAtom). bytes_eq atom.name.text name) atoms o n e l
-    ∙ sym (position_or_len-map (λ other. bytes_eq other name) (λ (atom : AtomContent). atom.name) (map atom_content atoms)
-    ∙ position_or_len-map (λ (atom : AtomContent). bytes_eq atom.name name) atom_content atoms)
+-- and the place of a name is found by either order of the two texts
+pub name_found : (name : List ℕ) (names : List (List ℕ)) (o : Option ℕ) (n : ℕ) → o ≡ position (bytes_eq name) names → n ≡ length names → unwrap_or o n ≡ place_of name names
+name_found name names o n e l = sought (bytes_eq name) names o n e l ∙ ap (λ p. position_or_len p names) (λ j other. nat_list_eq_equiv.symm name other j)
 
 -- whether a number is the place of some word
 pub places-any : (all : List (List ℕ)) (a : ℕ) (words : List Word) → is_in a (places_of (texts words) all) ≡ list_any (λ word. place_of word.text all == a) words

@@ -1,18 +1,16 @@
 -- A text that keeps the rules of cases and sizes has the form of a diagram there.
-use Rattle.std.proofs.Common.{◌≡◌, ◌≢◌, ℕ, zero, suc, ◌+◌, ◌*◌, ◌<◌, ◌≤◌, ◌==◌, Bool, true, false, not, ◌&&◌, ◌||◌, cond, nat_lt, nat_le, List, [], ◌∷◌, ◌++◌, length, map, get_or, slice_index, Option, Some, None, slice_get, refl, sym, subst, ap, ◌∙◌, arith}
+use Rattle.std.proofs.Common.{◌≡◌, ℕ, ◌+◌, ◌*◌, ◌<◌, ◌≤◌, ◌==◌, Bool, true, false, not, ◌&&◌, nat_lt, nat_le, List, [], ◌∷◌, length, map, get_or, slice_index, Some, None, slice_get, refl, sym, subst, ap, ◌∙◌, arith}
 use Rattle.std.proofs.Math.Nat.{mul_assoc}
-use Rattle.std.proofs.lemmas.Bool.{false≢true, or_left, or_right}
+use Rattle.std.proofs.lemmas.Bool.{or_left, or_right}
 use Rattle.std.proofs.lemmas.Bool.Decides.{nat_tests}
 use Rattle.std.proofs.lemmas.Option.{slice_get-map, get_or_from_slice_get}
 use Rattle.std.proofs.lemmas.List.{length-map}
-use Rattle.std.proofs.lemmas.List.Elements.{All-nil, All-cons, All-head, All-tail, All-append, All-map, All-weaker}
+use Rattle.std.proofs.lemmas.List.Elements.{All-nil, All-cons, All-head, All-append, All-map, All-weaker}
 use Rattle.std.proofs.lemmas.Slice.Eq.{bytes_eq-Decides}
 use Rattle.std.specs.List.{All, list_any, flat_map}
-use Rattle.std.specs.Option.{option_map, option_or}
-use Rattle.std.specs.Prelude.{IsTrue}
+use Rattle.std.specs.Option.{option_map}
 use Rattle.nego_base.specs.declared.line.Word.{Word}
 use Rattle.nego_data.specs.declared.cases.Set.{Set}
-use Rattle.nego_data.specs.declared.cases.Case.{Case}
 use Rattle.nego_data.specs.CaseForm.{AssignsBelow, FitsSize}
 use Rattle.nego_data.specs.Data.{data_count}
 use Rattle.nego_data.specs.Sizes.{AreSizes}
@@ -27,16 +25,16 @@ use Rattle.nego_reader.specs.declared.parsed.PRight.TheVariants as rights
 use Rattle.nego_reader.specs.declared.parsed.PSet.{PSet}
 use Rattle.nego_reader.specs.declared.parsed.PTerm.{PTerm}
 use Rattle.nego_reader.specs.declared.parsed.PTerm.TheVariants as terms
-use Rattle.nego_reader.specs.Content.{AgentContent, AtomContent, OutContent, CaseContent, TestContent, SetContent, content_of, agent_content, atom_content, out_content, case_content, test_content, set_content, right_content, term_content, texts}
+use Rattle.nego_reader.specs.Content.{AgentContent, CaseContent, SetContent, content_of, agent_content, case_content, test_content, set_content, right_content, term_content, texts}
 use Rattle.nego_shape.specs.declared.checks.outcomes.Rule.TheVariants as rules
 use Rattle.nego_shape.specs.declared.fault.ShapeKind.TheVariants as kinds
 use Rattle.nego_shape.specs.Naming.{place_of, agent_names, sizes_in, all_outs, set_in, case_in, cases_in, term_in}
 use Rattle.nego_shape.specs.Shaped.{AreNamedOnce, IsDeclared, IsNamedParty}
 use Rattle.nego_shape.specs.Shaped as shaped
 use Rattle.nego_shape.specs.Faults.{fault_on, same, stands_in, case_line, case_names, test_names, right_names, set_names, term_names, is_outside, not_party_on, is_overfull, is_too_large, value_too_large_on, broken, unknown_in, zero_size, zero_size_at, size_too_large, size_too_large_at, joint_from, joint_too_large}
-use Rattle.nego_shape.proofs.Misses.{or_none, if_none, not_not, not_both, any_none, among_none, numbered_none}
+use Rattle.nego_shape.proofs.Misses.{if_none, not_not, not_both, any_none, among_none, numbered_none}
 use Rattle.nego_shape.proofs.ShapedCases.{All-each, All-back}
-use Rattle.nego_shape.proofs.SoundDeclared.{IsOutDeclared, outs_declared, All-flat}
+use Rattle.nego_shape.proofs.SoundDeclared.{IsOutDeclared, outs_declared}
 use Rattle.nego_shape.proofs.SoundPlaces.{kept_by, all_slice, party_from, by_placed, agent_of}
 use Rattle.nego_shape.proofs.SoundRules.{All-unmap, no_agent_so}
 
@@ -115,7 +113,7 @@ module _ (p : Parsed) (once : AreNamedOnce (content_of p)) (known : unknown_in p
       party_from p once n atom at (place_of word (agent_names (content_of p))) there.agent there.at
       (not_not (stands_in atom.parties there.agent.name) (not_both (case_names there.agent.name case) (not (stands_in atom.parties there.agent.name)) none (case_named case j name q there.agent.name there.is)))))
 
-  size_there : (a : ℕ) (agent : PAgent) → slice_get p.agents a ≡ Some agent → agent.size ≡ slice_index (sizes_in (content_of p)) a
+  pub size_there : (a : ℕ) (agent : PAgent) → slice_get p.agents a ≡ Some agent → agent.size ≡ slice_index (sizes_in (content_of p)) a
   size_there a agent at =
       sym (get_or_from_slice_get (sizes_in (content_of p)) a agent.size 0
       (slice_get-map (λ (x : AgentContent). x.size) (map agent_content p.agents) a

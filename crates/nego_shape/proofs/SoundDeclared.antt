@@ -1,10 +1,9 @@
 -- A text in which nothing is unknown declares all its names.
-use Rattle.std.proofs.Common.{◌≡◌, ℕ, ◌+◌, ◌<◌, ◌≤◌, Bool, true, false, not, cond, List, [], ◌∷◌, ◌++◌, length, map, get_or, Option, Some, None, refl, sym, subst, ap, ◌∙◌, arith}
+use Rattle.std.proofs.Common.{◌≡◌, ℕ, ◌<◌, Bool, true, false, not, List, [], ◌∷◌, length, map, get_or, None, refl, ◌∙◌, arith}
 use Rattle.std.proofs.lemmas.Bool.{false≢true}
 use Rattle.std.proofs.lemmas.List.{length-map}
 use Rattle.std.proofs.lemmas.List.Elements.{All-nil, All-cons, All-head, All-tail, All-append, All-map}
 use Rattle.std.specs.List.{All, list_any, flat_map, position_or_len}
-use Rattle.std.specs.Option.{option_or}
 use Rattle.std.specs.Str.{bytes_eq}
 use Rattle.nego_base.specs.declared.line.Word.{Word}
 use Rattle.nego_reader.specs.declared.parsed.Parsed.{Parsed}
@@ -21,9 +20,9 @@ use Rattle.nego_reader.specs.declared.parsed.PTerm.{PTerm}
 use Rattle.nego_reader.specs.declared.parsed.PTerm.TheVariants as terms
 use Rattle.nego_reader.specs.Content.{AgentContent, AtomContent, OutContent, NextContent, CaseContent, TestContent, SetContent, content_of, agent_content, atom_content, out_content, next_content, case_content, test_content, set_content, right_content, term_content, texts}
 use Rattle.nego_shape.specs.Firsts.{first_among}
-use Rattle.nego_shape.specs.Naming.{place_of, agent_names, atom_names}
+use Rattle.nego_shape.specs.Naming.{agent_names, atom_names}
 use Rattle.nego_shape.specs.Shaped.{IsDeclared, AreAllDeclared, case_names, test_names, set_names, right_names, term_names}
-use Rattle.nego_shape.specs.Faults.{same, is_agent, is_atom, unknown_agent, unknown_atom, unknown_right, unknown_in_test, unknown_term, unknown_in_set, unknown_in_case, unknown_in_next, unknown_in_out, unknown_in_atom, unknown_in}
+use Rattle.nego_shape.specs.Faults.{is_agent, is_atom, unknown_agent, unknown_atom, unknown_right, unknown_in_test, unknown_term, unknown_in_set, unknown_in_case, unknown_in_next, unknown_in_out, unknown_in_atom, unknown_in}
 use Rattle.nego_shape.proofs.Outs.{All-outs}
 use Rattle.nego_shape.proofs.Sought.{position_or_len-map}
 use Rattle.nego_shape.proofs.Misses.{or_none, if_none, not_not, among_none}

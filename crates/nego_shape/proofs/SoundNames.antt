@@ -1,15 +1,13 @@
 -- A text in which nothing stands twice names all once, and one with agents, and not too many of anything, has so many.
-use Rattle.std.proofs.Common.{◌≡◌, ◌≢◌, ℕ, ◌+◌, ◌<◌, ◌≤◌, Bool, true, false, ◌&&◌, ◌||◌, List, [], ◌∷◌, ◌++◌, length, map, take, filter, get_or, Option, Some, None, slice_get, refl, sym, subst, ap, ◌∙◌, arith, length-append}
-use Rattle.std.proofs.lemmas.Bool.{false≢true, and_parts, and_from}
+use Rattle.std.proofs.Common.{◌≡◌, ◌≢◌, ℕ, ◌+◌, ◌<◌, ◌≤◌, Bool, true, false, ◌||◌, List, [], ◌∷◌, length, map, take, get_or, None, slice_get, refl, sym, subst, ap, ◌∙◌, arith, length-append}
 use Rattle.std.proofs.lemmas.Bool.Decides.{not_from_Decides}
 use Rattle.std.proofs.lemmas.List.{length-map}
-use Rattle.std.proofs.lemmas.List.Elements.{All-nil, All-cons, All-head, All-tail, All-append, All-map, All-weaker}
+use Rattle.std.proofs.lemmas.List.Elements.{All-nil, All-head, All-tail, All-append, All-map, All-weaker}
 use Rattle.std.proofs.lemmas.Slice.Eq.{bytes_eq-Decides}
-use Rattle.std.specs.List.{All, AllPairs, list_any, flat_map}
-use Rattle.std.specs.Option.{option_map, option_or}
+use Rattle.std.specs.List.{All, AllPairs, list_any}
 use Rattle.std.specs.Str.{bytes_eq}
 use Rattle.nego_base.specs.declared.line.Word.{Word}
-use Rattle.nego_model.proofs.PairLaws.{AllPairs-cons, AllPairs-head, AllPairs-tail, AllPairs-append, AllPairs-map}
+use Rattle.nego_model.proofs.PairLaws.{AllPairs-head, AllPairs-tail, AllPairs-append, AllPairs-map}
 use Rattle.nego_reader.specs.declared.parsed.Parsed.{Parsed}
 use Rattle.nego_reader.specs.declared.parsed.PAgent.{PAgent}
 use Rattle.nego_reader.specs.declared.parsed.PAtom.{PAtom}
@@ -17,16 +15,15 @@ use Rattle.nego_reader.specs.declared.parsed.POut.{POut}
 use Rattle.nego_reader.specs.declared.parsed.PNext.{PNext}
 use Rattle.nego_reader.specs.declared.parsed.PCase.{PCase}
 use Rattle.nego_reader.specs.declared.parsed.PSet.{PSet}
-use Rattle.nego_reader.specs.Content.{AgentContent, AtomContent, OutContent, NextContent, CaseContent, SetContent, content_of, agent_content, atom_content, out_content, next_content, case_content, set_content, texts}
+use Rattle.nego_reader.specs.Content.{AgentContent, AtomContent, OutContent, SetContent, content_of, agent_content, atom_content, out_content, next_content, case_content, set_content, texts}
 use Rattle.nego_shape.specs.declared.fault.Many.{Many}
 use Rattle.nego_shape.specs.declared.fault.Many.TheVariants as many
 use Rattle.nego_shape.specs.declared.fault.ShapeKind.TheVariants as kinds
-use Rattle.nego_shape.specs.declared.fault.ShapeFault.{ShapeFault}
 use Rattle.nego_shape.specs.Firsts.{first_numbered}
-use Rattle.nego_shape.specs.Naming.{PlacedOut, agent_names, atom_names, outs_from, all_outs}
+use Rattle.nego_shape.specs.Naming.{outs_from, all_outs}
 use Rattle.nego_shape.specs.Made.{placed_at}
 use Rattle.nego_shape.specs.Shaped.{AreDifferent, AreNamedOnce, assigned_names, sent_names}
-use Rattle.nego_shape.specs.Faults.{fault_on, same, stands_in, no_agent, past, out_names, too_many, word_if, repeated, twice_in_case, twice_among, twice_on_nexts, twice_on_next, twice_in_out, twice_from_out, twice_in_outs, twice_in_atom, twice_from_atom, twice_in_atoms, twice_in_agents, twice_in, leads, agent_again}
+use Rattle.nego_shape.specs.Faults.{fault_on, same, stands_in, no_agent, past, out_names, too_many, word_if, repeated, twice_in_case, twice_on_nexts, twice_on_next, twice_in_out, twice_from_out, twice_in_outs, twice_in_atom, twice_from_atom, twice_in_atoms, twice_in_agents, twice_in, leads, agent_again}
 use Rattle.nego_shape.proofs.Outs.{All-outs, no_pairs}
 use Rattle.nego_shape.proofs.OutNames.{few_items}
 use Rattle.nego_shape.proofs.Misses.{or_none, map_none, if_none, neither, not_both, any_none, among_none, numbered_none, again_none}
@@ -38,7 +35,7 @@ some_agent (agent ∷ agents) h = omega arith
 few : (most : ℕ) (what : Many) (names : List Word) → past most what names ≡ None → length names ≤ most
 few most what names h = few_items names most (map_none (λ (word : Word). fault_on word.line (kinds.TooMany what)) (slice_get names most) h)
 
-outs-count : (n : ℕ) (atoms : List PAtom) → length (outs_from n (map atom_content atoms)) ≡ length (out_names atoms)
+pub outs-count : (n : ℕ) (atoms : List PAtom) → length (outs_from n (map atom_content atoms)) ≡ length (out_names atoms)
 unfolding out_names
 outs-count n [] = refl
 outs-count n (atom ∷ atoms) =
@@ -69,7 +66,7 @@ module _ {A : Type 0} (name : A → Word) where
   once : (xs : List A) → first_numbered (λ i x. word_if (list_any (λ y. same (name x) (name y)) (take i xs)) (name x)) 0 xs ≡ None → AllPairs (λ x y. (name x).text ≢ (name y).text) xs
   once xs h = again_none (λ before x. word_if (list_any (λ y. same (name x) (name y)) before) (name x)) (λ x y. (name x).text ≢ (name y).text) not_before xs h
 
-abbrev Differ : List ℕ → List ℕ → Type 0
+abbrev pub Differ : List ℕ → List ℕ → Type 0
 Differ one two = one ≢ two
 
 agents_once : (agents : List PAgent) → twice_in_agents agents ≡ None → AreDifferent (map (λ (agent : AgentContent). agent.name) (map agent_content agents))
@@ -86,7 +83,7 @@ case_once c h =
     (AllPairs-map (λ (x y : SetContent). x.agent ≢ y.agent) set_content c.sets (once (λ (set : PSet). set.agent) c.sets h))
 
 -- the agents on two next lines for one atom differ
-abbrev Apart : PNext → PNext → Type 0
+abbrev pub Apart : PNext → PNext → Type 0
 Apart one two = same two.atom one.atom ≡ true → All (λ x. All (λ y. x.text ≢ y.text) two.agents) one.agents
 
 next_apart : (earlier : List PNext) (next : PNext) → twice_on_next earlier next ≡ None → All (λ one. Apart one next) earlier

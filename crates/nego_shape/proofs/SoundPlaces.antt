@@ -1,13 +1,13 @@
 -- Agents and atoms by number and by name, where each is named once.
-use Rattle.std.proofs.Common.{◌≡◌, ◌≢◌, ℕ, zero, suc, ◌+◌, ◌<◌, ◌≤◌, ◌==◌, Bool, true, false, ◌&&◌, ◌||◌, List, [], ◌∷◌, ◌++◌, length, map, get_or, Option, Some, None, slice_get, refl, sym, subst, ap, ◌∙◌, arith, eqb-true, eq-eqb}
-use Rattle.std.proofs.lemmas.Bool.{false≢true, and_parts, and_from}
-use Rattle.std.proofs.lemmas.Option.{same_Some, none-some, slice_get-map, slice_get-get_or, get_or_from_slice_get}
+use Rattle.std.proofs.Common.{◌≡◌, ℕ, zero, suc, ◌+◌, ◌<◌, ◌==◌, Bool, true, false, ◌&&◌, ◌||◌, List, [], ◌∷◌, length, map, get_or, Option, Some, None, slice_get, refl, sym, subst, ap, ◌∙◌, arith, eqb-true, eq-eqb}
+use Rattle.std.proofs.lemmas.Bool.{false≢true, and_parts}
+use Rattle.std.proofs.lemmas.Option.{same_Some, none-some, slice_get-map, get_or_from_slice_get}
 use Rattle.std.proofs.lemmas.List.{length-map}
 use Rattle.std.proofs.lemmas.List.Elements.{All-nil, All-append, All-map}
 use Rattle.std.proofs.lemmas.List.Sums.{position_or_len_is}
 use Rattle.std.proofs.lemmas.Slice.Eq.{bytes_eq-Decides}
 use Rattle.std.specs.List.{All, list_any, range_with_len}
-use Rattle.std.specs.Option.{option_map, option_map_or, option_or}
+use Rattle.std.specs.Option.{option_map, option_map_or}
 use Rattle.std.specs.Prelude.{IsTrue}
 use Rattle.std.specs.Str.{bytes_eq}
 use Rattle.nego_base.specs.declared.line.Word.{Word}
@@ -20,7 +20,6 @@ use Rattle.nego_reader.specs.declared.parsed.PAtom.{PAtom}
 use Rattle.nego_reader.specs.declared.parsed.POut.{POut}
 use Rattle.nego_reader.specs.Content.{AgentContent, AtomContent, OutContent, content_of, agent_content, atom_content, out_content, texts}
 use Rattle.nego_shape.specs.declared.checks.outcomes.Rule.{Rule}
-use Rattle.nego_shape.specs.Firsts.{first_numbered}
 use Rattle.nego_shape.specs.Naming.{PlacedOut, place_of, places_of, agent_names, atom_names, outs_from, all_outs, parties_in, parties_at}
 use Rattle.nego_shape.specs.Made.{placed_at}
 use Rattle.nego_shape.specs.Shaped.{AreDifferent, AreNamedOnce, IsDeclared, IsParty, last_number}
@@ -102,7 +101,7 @@ kept_by rule p o (x ∷ atoms) h zero atom at =
 kept_by rule p o (x ∷ atoms) h (suc i) atom at = kept_by rule p (o + length x.outs) atoms (or_none (broken_among rule p x o x.outs) (broken_from rule p (o + length x.outs) atoms) h).1 i atom at
 
 module _ (p : Parsed) (once : AreNamedOnce (content_of p)) where
-  agent_at : (a : ℕ) (agent : PAgent) → slice_get p.agents a ≡ Some agent → slice_get (agent_names (content_of p)) a ≡ Some agent.name.text
+  pub agent_at : (a : ℕ) (agent : PAgent) → slice_get p.agents a ≡ Some agent → slice_get (agent_names (content_of p)) a ≡ Some agent.name.text
   agent_at a agent at =
       slice_get-map (λ (x : AgentContent). x.name) (map agent_content p.agents) a
       ∙ ap (option_map (λ (x : AgentContent). x.name)) (slice_get-map agent_content p.agents a ∙ ap (option_map agent_content) at)

@@ -1,37 +1,30 @@
 -- A text that keeps the rules of parties, next lines, cases and sizes has the form of a diagram.
-use Rattle.std.proofs.Common.{◌≡◌, ◌≢◌, ℕ, zero, suc, ◌+◌, ◌*◌, ◌<◌, ◌≤◌, ◌==◌, Bool, true, false, not, ◌&&◌, ◌||◌, cond, nat_lt, nat_le, List, [], ◌∷◌, ◌++◌, length, map, get_or, Option, Some, None, slice_get, refl, sym, subst, ap, ◌∙◌, arith, eqb-true, eq-eqb}
-use Rattle.std.proofs.lemmas.Bool.{false≢true, and_parts, and_from}
-use Rattle.std.proofs.lemmas.Bool.Decides.{nat_tests}
-use Rattle.std.proofs.lemmas.Option.{none-some, slice_get-map, slice_get-get_or, get_or_from_slice_get}
+use Rattle.std.proofs.Common.{◌≡◌, ◌≢◌, ℕ, ◌<◌, ◌==◌, Bool, true, false, not, ◌&&◌, cond, List, [], ◌∷◌, length, map, get_or, Option, Some, None, slice_get, refl, sym, subst, ◌∙◌}
+use Rattle.std.proofs.lemmas.Bool.{false≢true, and_parts}
+use Rattle.std.proofs.lemmas.Option.{none-some, slice_get-get_or}
 use Rattle.std.proofs.lemmas.List.{length-map}
-use Rattle.std.proofs.lemmas.List.Elements.{All-nil, All-cons, All-head, All-tail, All-append, All-map}
+use Rattle.std.proofs.lemmas.List.Elements.{All-nil, All-cons, All-head, All-tail, All-map}
 use Rattle.std.proofs.lemmas.List.Folds.{list_any_at}
 use Rattle.std.proofs.lemmas.Slice.Eq.{bytes_eq-Decides}
-use Rattle.std.specs.List.{All, list_any, flat_map, position}
-use Rattle.std.specs.Option.{option_map, option_or}
-use Rattle.std.specs.Prelude.{IsTrue}
-use Rattle.std.specs.Str.{bytes_eq}
+use Rattle.std.specs.List.{All, list_any, position}
+use Rattle.std.specs.Option.{option_map}
 use Rattle.nego_base.specs.declared.line.Word.{Word}
 use Rattle.nego_base.specs.declared.ids.AgentId.{AgentId}
-use Rattle.nego_base.specs.Members.{is_in}
 use Rattle.nego_reader.specs.declared.parsed.Parsed.{Parsed}
 use Rattle.nego_reader.specs.declared.parsed.PAgent.{PAgent}
 use Rattle.nego_reader.specs.declared.parsed.PAtom.{PAtom}
 use Rattle.nego_reader.specs.declared.parsed.POut.{POut}
 use Rattle.nego_reader.specs.declared.parsed.PNext.{PNext}
-use Rattle.nego_reader.specs.Content.{AgentContent, AtomContent, OutContent, NextContent, content_of, agent_content, atom_content, out_content, next_content, texts}
-use Rattle.nego_shape.specs.declared.checks.outcomes.Rule.{Rule}
+use Rattle.nego_reader.specs.Content.{AtomContent, NextContent, content_of, agent_content, atom_content, out_content, next_content, texts}
 use Rattle.nego_shape.specs.declared.checks.outcomes.Rule.TheVariants as rules
-use Rattle.nego_shape.specs.declared.fault.ShapeFault.{ShapeFault}
 use Rattle.nego_shape.specs.declared.fault.ShapeKind.{ShapeKind}
 use Rattle.nego_shape.specs.declared.fault.ShapeKind.TheVariants as kinds
-use Rattle.nego_shape.specs.Firsts.{first_among}
-use Rattle.nego_shape.specs.Naming.{place_of, places_of, agent_names, atom_names, all_outs}
-use Rattle.nego_shape.specs.Shaped.{AreNamedOnce, AreAllDeclared, IsDeclared, IsParty, IsNamedParty, IsSent, last_number}
-use Rattle.nego_shape.specs.Faults.{fault_on, same, stands_in, is_party_at, is_last, lacks, agent_fault, no_party, no_party_at, no_outcome, no_outcome_at, is_missing, next_missing_at, is_stranger, next_stranger_on, next_stranger_at, last_leads_at, atom_number, broken, unknown_in}
+use Rattle.nego_shape.specs.Naming.{place_of, agent_names, atom_names, all_outs}
+use Rattle.nego_shape.specs.Shaped.{AreNamedOnce, IsDeclared, IsParty, IsNamedParty, IsSent, last_number}
+use Rattle.nego_shape.specs.Faults.{fault_on, same, stands_in, is_party_at, is_last, lacks, agent_fault, no_party, no_party_at, no_outcome, no_outcome_at, is_missing, next_missing_at, is_stranger, next_stranger_on, atom_number, broken, unknown_in}
 use Rattle.nego_shape.proofs.SoundDeclared.{IsOutDeclared, outs_declared, all_declared}
-use Rattle.nego_shape.proofs.Misses.{or_none, map_none, if_none, not_not, not_both, any_none, among_none, numbered_none, position_none}
-use Rattle.nego_shape.proofs.SoundPlaces.{Keeps, kept_by, any_at, all_slice, some_below, false_from, stand, party_from, party_stands, party_at, last_is, is_last_at, by_placed, party_below, Agent, agent_of}
+use Rattle.nego_shape.proofs.Misses.{map_none, if_none, not_not, not_both, among_none, numbered_none, position_none}
+use Rattle.nego_shape.proofs.SoundPlaces.{kept_by, all_slice, false_from, stand, party_from, party_stands, party_at, last_is, is_last_at, by_placed, party_below, agent_of}
 
 -- what mapped items have
 pub All-unmap : {X Y : Type 0} (P : Y → Type 0) (f : X → Y) (xs : List X) → All P (map f xs) → All (λ x. P (f x)) xs

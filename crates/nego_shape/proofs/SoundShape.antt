@@ -1,12 +1,11 @@
 -- A text without a fault of shape has the shape of a diagram.
-use Rattle.std.proofs.Common.{◌≡◌, ℕ, ◌+◌, ◌<◌, Bool, true, false, not, nat_lt, List, [], ◌∷◌, length, map, get_or, Option, Some, None, refl, sym, subst, ap, ◌∙◌, arith}
+use Rattle.std.proofs.Common.{◌≡◌, ℕ, ◌+◌, ◌<◌, Bool, true, false, not, nat_lt, List, [], ◌∷◌, length, map, get_or, Some, None, refl, sym, subst, arith}
 use Rattle.std.proofs.lemmas.List.FromFn.{get_or-range_with_len, length-range_with_len}
 use Rattle.std.proofs.lemmas.List.Elements.{All-nil, All-cons}
 use Rattle.std.proofs.lemmas.List.Sums.{position_or_len_is}
 use Rattle.std.proofs.lemmas.Bool.{lt-ltb}
 use Rattle.std.proofs.lemmas.Bool.Decides.{nat_tests}
-use Rattle.std.specs.List.{All, list_any, position, range_with_len}
-use Rattle.std.specs.Option.{option_map, option_or}
+use Rattle.std.specs.List.{All, list_any, range_with_len}
 use Rattle.nego_data.specs.declared.cases.Case.{Case}
 use Rattle.nego_data.specs.Cases.{covers}
 use Rattle.nego_data.specs.CaseForm.{AllCovered, IsFirstUncovered}
@@ -14,7 +13,7 @@ use Rattle.nego_data.specs.Data.{data_count, split}
 use Rattle.nego_reader.specs.declared.parsed.Parsed.{Parsed}
 use Rattle.nego_reader.specs.declared.parsed.PAtom.{PAtom}
 use Rattle.nego_reader.specs.declared.parsed.POut.{POut}
-use Rattle.nego_reader.specs.Content.{OutContent, content_of, atom_content, out_content}
+use Rattle.nego_reader.specs.Content.{content_of, atom_content, out_content}
 use Rattle.nego_shape.specs.declared.checks.outcomes.Rule.TheVariants as rules
 use Rattle.nego_shape.specs.declared.fault.ShapeKind.TheVariants as kinds
 use Rattle.nego_shape.specs.Naming.{sizes_in, all_outs, cases_in}

@@ -4,7 +4,7 @@ ghost use Rattle.std.specs.Prelude.{◌≡◌, None};
 ghost use Rattle.nego_reader.specs.declared.parsed.Parsed.{Parsed};
 ghost use Rattle.nego_reader.specs.Content.{content_of};
 ghost use Rattle.nego_shape.specs.Faults.{shape_fault};
-ghost use Rattle.nego_shape.specs.Laws.{OneOrderIsTold, OneCycleIsFound};
+ghost use Rattle.nego_shape.specs.Laws.{OneOrderIsTold, OneCycleIsFound, SizeFaultsAreThoseOfSizes};
 ghost use Rattle.nego_shape.specs.Shaped.{IsShaped};
 
 /// A negotiation has at most one order that can be told.
@@ -17,7 +17,13 @@ pub fn one_cycle_is_found()
     ensures { OneCycleIsFound }
 {}
 
-/// A text's value that has no fault of shape has the shape of a diagram.
-pub fn faultless_texts_are_shaped()
-    ensures { (p : Parsed) → shape_fault p ≡ None → IsShaped (content_of p) }
+/// A text's value has no fault of shape exactly where what it says has the shape of a diagram.
+pub fn faultless_texts_are_those_shaped()
+    ensures shaped { (p : Parsed) → shape_fault p ≡ None → IsShaped (content_of p) }
+    ensures faultless { (p : Parsed) → IsShaped (content_of p) → shape_fault p ≡ None }
+{}
+
+/// The first fault of a text's sizes is the one that `Sizes::new` answers of them.
+pub fn size_faults_are_those_of_sizes()
+    ensures { SizeFaultsAreThoseOfSizes }
 {}

@@ -12,9 +12,13 @@ mod fault;
 mod finding;
 pub mod laws;
 mod making;
+mod numbering;
+#[cfg(test)]
+mod order_tests;
 mod ordering;
 mod placing;
 mod shaping;
+mod sizing;
 #[cfg(test)]
 mod tests;
 mod totality;
@@ -23,6 +27,6 @@ pub use answer::Order;
 pub use choices::determined;
 pub use contents::{shaped_contents_are_diagrams, spelled_words_are_names};
 pub use fault::{Many, ShapeAnswer, ShapeFault, ShapeKind};
-pub use making::diagram;
 pub use ordering::order;
 pub use shaping::shape;
+pub use sizing::sizes_of;

@@ -1,15 +1,16 @@
 //! The diagram of a text that has no fault of shape. Names become numbers in the order of the text.
 
 ghost use Rattle.std.specs.Prelude.{◌≡◌, ◌<◌, ◌≤◌, ◌==◌, ◌++◌, length, map, take, slice_get, Some, All, Contains, IfOk, OnOk, IsTrue};
-ghost use Rattle.std.specs.List.{range_with_len, list_any, position};
-ghost use Rattle.std.specs.Str.{bytes_eq};
+ghost use Rattle.std.specs.List.{range_with_len, list_any};
 ghost use Rattle.nego_data.specs.Cases.{rows_of};
 ghost use Rattle.nego_model.specs.Parts.{plain_outcome};
 ghost use Rattle.nego_reader.specs.Content.{content_of, atom_content, out_content, next_content, case_content, test_content, set_content, right_content, term_content, texts};
-ghost use Rattle.nego_shape.specs.Naming.{place_of, agent_names, atom_names, sizes_in, all_outs, parties_in, next_atoms, operand_in, test_in, term_in, set_in, case_in, cases_in, outcome_in, diagram_in};
+ghost use Rattle.nego_shape.specs.Naming.{place_of, agent_names, atom_names, sizes_in, all_outs, parties_in, parties_at, next_atoms, operand_in, test_in, term_in, set_in, case_in, cases_in, outcome_in, diagram_in};
 ghost use Rattle.nego_shape.specs.Shaped.{IsDeclared, IsAllCovered, IsFormed, HasNameWords};
 ghost use Rattle.nego_shape.specs.Made.{placed_at, outcomes_at, part_in, parts_from};
 
+use crate::numbering::Numbered;
+use crate::sizing::sizes_of;
 use nego_base::{AgentId, AgentSet, AtomId, AtomSet, Memory, Seq, Text, Word};
 use nego_data::cases::{Case, Operand, Set, Term, Test};
 use nego_data::{Sizes, Table, TableFault, table_of};
@@ -18,14 +19,15 @@ use nego_reader::{PAtom, PCase, PNext, POut, PRight, PSet, PTerm, PTest, Parsed}
 use std::alloc::Global;
 
 /// The diagram that the text is. It has no fault of shape, and its words are names, as those of a text that was read.
-pub fn diagram(alloc: Global, p: &Parsed) -> Result<Diagram, Memory>
+pub(crate) fn diagram(alloc: Global, p: &Numbered) -> Result<Diagram, Memory>
     requires shaped { IsFormed (content_of p.now) }
     requires covered { All (λ placed. IsAllCovered (content_of p.now) placed.out) (all_outs (content_of p.now)) }
     requires named { HasNameWords (content_of p.now) }
     ensures { IfOk result (λ d. d ≡ diagram_in (content_of p.now)) }
 {
-    let agents = names_of(alloc, p)?;
-    let sizes = sizes_of(alloc, p)?;
+    let text = p.text();
+    let agents = names_of(alloc, text)?;
+    let sizes = sizes_of(alloc, text)?;
     let atoms = atoms_of(alloc, p)?;
     let outcomes = outcomes_of(alloc, p, &sizes)?;
     Ok(Diagram::from_parts(Parts {
@@ -33,8 +35,8 @@ pub fn diagram(alloc: Global, p: &Parsed) -> Result<Diagram, Memory>
         sizes,
         atoms,
         outcomes,
-        first: AtomId(atom_place(p, &p.first)),
-        last: AtomId(atom_place(p, &p.last)),
+        first: AtomId(p.atom(&text.first)),
+        last: AtomId(p.atom(&text.last)),
     }))
 }
 
@@ -49,33 +51,14 @@ fn names_of(alloc: Global, p: &Parsed) -> Result<Seq<Text>, Memory>
     Ok(names)
 }
 
-/// The sizes of the agents' data.
-pub(crate) fn sizes_of(alloc: Global, p: &Parsed) -> Result<Sizes, Memory>
-    requires { IsFormed (content_of p.now) }
-    ensures { IfOk result (λ sizes. sizes ≡ sizes_in (content_of p.now)) }
-{
-    let sizes = numbers_of(alloc, p)?;
-    Ok(Sizes::new(sizes.as_slice()).unwrap())
-}
-
-fn numbers_of(alloc: Global, p: &Parsed) -> Result<Seq<u32>, Memory>
-    ensures { IfOk result (λ sizes. sizes ≡ map (λ agent. agent.size) p.now.agents) }
-{
-    let mut sizes = Seq::new(alloc);
-    for agent in p.agents.iter() {
-        sizes.push(agent.size)?;
-    }
-    Ok(sizes)
-}
-
 /// The atoms; the outcomes of each have the numbers behind those of the atoms before.
-fn atoms_of(alloc: Global, p: &Parsed) -> Result<Seq<AtomPart>, Memory>
+fn atoms_of(alloc: Global, p: &Numbered) -> Result<Seq<AtomPart>, Memory>
     requires { IsFormed (content_of p.now) }
     ensures { IfOk result (λ parts. parts ≡ parts_from (content_of p.now) 0 (map atom_content p.now.atoms)) }
 {
     let mut parts = Seq::new(alloc);
     let mut start = 0;
-    for atom in p.atoms.iter() {
+    for atom in p.text().atoms.iter() {
         parts.push(atom_part(alloc, p, atom, start)?)?;
         start += atom.outs.len() as u32;
     }
@@ -83,7 +66,7 @@ fn atoms_of(alloc: Global, p: &Parsed) -> Result<Seq<AtomPart>, Memory>
 }
 
 /// The atom, whose outcomes begin with this number.
-fn atom_part(alloc: Global, p: &Parsed, atom: &PAtom, start: u32) -> Result<AtomPart, Memory>
+fn atom_part(alloc: Global, p: &Numbered, atom: &PAtom, start: u32) -> Result<AtomPart, Memory>
     requires shaped { IsFormed (content_of p.now) }
     requires declared { All (IsDeclared (agent_names (content_of p.now))) (texts atom.now.parties) }
     requires few { length atom.now.outs ≤ 256 }
@@ -98,14 +81,14 @@ fn atom_part(alloc: Global, p: &Parsed, atom: &PAtom, start: u32) -> Result<Atom
 }
 
 /// The outcomes of all atoms.
-fn outcomes_of(alloc: Global, p: &Parsed, sizes: &Sizes) -> Result<Seq<OutcomePart>, Memory>
+fn outcomes_of(alloc: Global, p: &Numbered, sizes: &Sizes) -> Result<Seq<OutcomePart>, Memory>
     requires shaped { IsFormed (content_of p.now) }
     requires covered { All (λ placed. IsAllCovered (content_of p.now) placed.out) (all_outs (content_of p.now)) }
     requires sizes { sizes.now ≡ sizes_in (content_of p.now) }
     ensures { IfOk result (λ parts. map (plain_outcome (length p.now.agents)) parts ≡ map (outcome_in (content_of p.now)) (all_outs (content_of p.now))) }
 {
     let mut outcomes = Seq::new(alloc);
-    for n in 0..p.atoms.len() {
+    for n in 0..p.text().atoms.len() {
         add_outcomes(alloc, p, sizes, n, &mut outcomes)?;
     }
     Ok(outcomes)
@@ -114,7 +97,7 @@ fn outcomes_of(alloc: Global, p: &Parsed, sizes: &Sizes) -> Result<Seq<OutcomePa
 /// Puts the outcomes of the atom at the end.
 fn add_outcomes(
     alloc: Global,
-    p: &Parsed,
+    p: &Numbered,
     sizes: &Sizes,
     n: usize,
     outcomes: &mut Seq<OutcomePart>,
@@ -125,7 +108,7 @@ fn add_outcomes(
     requires atom { n < length p.now.atoms }
     ensures { OnOk result (map (plain_outcome (length p.now.agents)) outcomes.new ≡ map (plain_outcome (length p.now.agents)) outcomes.old ++ outcomes_at (content_of p.now) n) }
 {
-    for out in p.atoms[n].outs.iter() {
+    for out in p.text().atoms[n].outs.iter() {
         outcomes.push(outcome_part(alloc, p, sizes, n, out)?)?;
     }
     Ok(())
@@ -134,7 +117,7 @@ fn add_outcomes(
 /// The outcome, as one of the atom.
 fn outcome_part(
     alloc: Global,
-    p: &Parsed,
+    p: &Numbered,
     sizes: &Sizes,
     n: usize,
     out: &POut,
@@ -155,20 +138,20 @@ fn outcome_part(
 }
 
 /// For each agent its next atoms after the outcome.
-fn next_sets(p: &Parsed, n: usize, out: &POut) -> [AtomSet; 16]
+fn next_sets(p: &Numbered, n: usize, out: &POut) -> [AtomSet; 16]
     requires shaped { IsFormed (content_of p.now) }
     requires out { Contains (all_outs (content_of p.now)) (placed_at n (out_content out.now)) }
     ensures { take (length p.now.agents) result ≡ map (next_atoms (content_of p.now) (out_content out.now)) (range_with_len 0 (length p.now.agents)) }
 {
     let mut nexts = [AtomSet::none(); 16];
-    for a in 0..p.agents.len() {
+    for a in 0..p.text().agents.len() {
         nexts[a] = next_set(p, n, out, a as u32);
     }
     nexts
 }
 
 /// The next atoms of the agent after the outcome.
-fn next_set(p: &Parsed, n: usize, out: &POut, a: u32) -> AtomSet
+fn next_set(p: &Numbered, n: usize, out: &POut, a: u32) -> AtomSet
     requires shaped { IsFormed (content_of p.now) }
     requires out { Contains (all_outs (content_of p.now)) (placed_at n (out_content out.now)) }
     ensures { result ≡ next_atoms (content_of p.now) (out_content out.now) a }
@@ -176,35 +159,44 @@ fn next_set(p: &Parsed, n: usize, out: &POut, a: u32) -> AtomSet
     let mut set = AtomSet::none();
     for next in out.nexts.iter() {
         if stands(p, next, a) {
-            set = set.with(AtomId(atom_place(p, &next.atom)));
+            set = set.with(AtomId(p.atom(&next.atom)));
         }
     }
     set
 }
 
 /// Whether the agent stands on the next line.
-fn stands(p: &Parsed, next: &PNext, a: u32) -> bool
+fn stands(p: &Numbered, next: &PNext, a: u32) -> bool
     requires { IsFormed (content_of p.now) }
     ensures { result ≡ list_any (λ name. place_of name.text (agent_names (content_of p.now)) == a) next.now.agents }
 {
-    next.agents.iter().any(|name| agent_place(p, name) == a)
+    next.agents.iter().any(|name| p.agent(name) == a)
+}
+
+/// The parties of the atom.
+pub(crate) fn parties_of(p: &Numbered, n: usize) -> AgentSet
+    requires shaped { IsFormed (content_of p.now) }
+    requires atom { n < length p.now.atoms }
+    ensures { result ≡ parties_at (content_of p.now) n }
+{
+    party_set(p, p.text().atoms[n].parties.as_slice())
 }
 
 /// The agents of these names.
-pub(crate) fn party_set(p: &Parsed, names: &[Word]) -> AgentSet
+fn party_set(p: &Numbered, names: &[Word]) -> AgentSet
     requires shaped { IsFormed (content_of p.now) }
     requires declared { All (IsDeclared (agent_names (content_of p.now))) (texts names.now) }
     ensures { result ≡ parties_in (content_of p.now) (texts names.now) }
 {
     let mut set = AgentSet::none();
     for name in names {
-        set = set.with(AgentId(agent_place(p, name)));
+        set = set.with(AgentId(p.agent(name)));
     }
     set
 }
 
 /// The table of the outcome's cases.
-fn table(alloc: Global, p: &Parsed, sizes: &Sizes, n: usize, out: &POut) -> Result<Table, Memory>
+fn table(alloc: Global, p: &Numbered, sizes: &Sizes, n: usize, out: &POut) -> Result<Table, Memory>
     requires shaped { IsFormed (content_of p.now) }
     requires covered { All (λ placed. IsAllCovered (content_of p.now) placed.out) (all_outs (content_of p.now)) }
     requires sizes { sizes.now ≡ sizes_in (content_of p.now) }
@@ -212,7 +204,7 @@ fn table(alloc: Global, p: &Parsed, sizes: &Sizes, n: usize, out: &POut) -> Resu
     requires out { Contains (all_outs (content_of p.now)) (placed_at n (out_content out.now)) }
     ensures { IfOk result (λ table. table ≡ rows_of (sizes_in (content_of p.now)) (cases_in (content_of p.now) (out_content out.now))) }
 {
-    let parties = party_set(p, p.atoms[n].parties.as_slice());
+    let parties = parties_of(p, n);
     let cases = cases_of(alloc, p, out.cases.as_slice())?;
     match table_of(alloc, sizes, parties, cases.as_slice()) {
         Ok(table) => Ok(table),
@@ -222,7 +214,7 @@ fn table(alloc: Global, p: &Parsed, sizes: &Sizes, n: usize, out: &POut) -> Resu
 }
 
 /// The cases, with agents' numbers.
-pub(crate) fn cases_of(alloc: Global, p: &Parsed, cases: &[PCase]) -> Result<Seq<Case>, Memory>
+pub(crate) fn cases_of(alloc: Global, p: &Numbered, cases: &[PCase]) -> Result<Seq<Case>, Memory>
     requires { IsFormed (content_of p.now) }
     ensures { IfOk result (λ made. made ≡ map (λ case. case_in (content_of p.now) (case_content case)) cases.now) }
 {
@@ -237,7 +229,7 @@ pub(crate) fn cases_of(alloc: Global, p: &Parsed, cases: &[PCase]) -> Result<Seq
 }
 
 /// The comparisons.
-fn tests_of(alloc: Global, p: &Parsed, tests: &[PTest]) -> Result<Seq<Test>, Memory>
+fn tests_of(alloc: Global, p: &Numbered, tests: &[PTest]) -> Result<Seq<Test>, Memory>
     requires { IsFormed (content_of p.now) }
     ensures { IfOk result (λ made. made ≡ map (λ test. test_in (content_of p.now) (test_content test)) tests.now) }
 {
@@ -248,29 +240,29 @@ fn tests_of(alloc: Global, p: &Parsed, tests: &[PTest]) -> Result<Seq<Test>, Mem
     Ok(made)
 }
 
-fn test_of(p: &Parsed, test: &PTest) -> Test
+fn test_of(p: &Numbered, test: &PTest) -> Test
     requires { IsFormed (content_of p.now) }
     ensures { result ≡ test_in (content_of p.now) (test_content test.now) }
 {
     Test {
-        agent: AgentId(agent_place(p, &test.left)),
+        agent: AgentId(p.agent(&test.left)),
         op: test.op,
         right: right_of(p, &test.right),
     }
 }
 
-fn right_of(p: &Parsed, right: &PRight) -> Operand
+fn right_of(p: &Numbered, right: &PRight) -> Operand
     requires { IsFormed (content_of p.now) }
     ensures { result ≡ operand_in (content_of p.now) (right_content right.now) }
 {
     match right {
         PRight::Number(n) => Operand::Number(*n),
-        PRight::Name(name) => Operand::Value(AgentId(agent_place(p, name))),
+        PRight::Name(name) => Operand::Value(AgentId(p.agent(name))),
     }
 }
 
 /// The assignments.
-fn sets_of(alloc: Global, p: &Parsed, sets: &[PSet]) -> Result<Seq<Set>, Memory>
+fn sets_of(alloc: Global, p: &Numbered, sets: &[PSet]) -> Result<Seq<Set>, Memory>
     requires { IsFormed (content_of p.now) }
     ensures { IfOk result (λ made. made ≡ map (λ set. set_in (content_of p.now) (set_content set)) sets.now) }
 {
@@ -281,59 +273,24 @@ fn sets_of(alloc: Global, p: &Parsed, sets: &[PSet]) -> Result<Seq<Set>, Memory>
     Ok(made)
 }
 
-fn set_of(p: &Parsed, set: &PSet) -> Set
+fn set_of(p: &Numbered, set: &PSet) -> Set
     requires { IsFormed (content_of p.now) }
     ensures { result ≡ set_in (content_of p.now) (set_content set.now) }
 {
     Set {
-        agent: AgentId(agent_place(p, &set.agent)),
+        agent: AgentId(p.agent(&set.agent)),
         term: term_of(p, &set.term),
     }
 }
 
-fn term_of(p: &Parsed, term: &PTerm) -> Term
+fn term_of(p: &Numbered, term: &PTerm) -> Term
     requires { IsFormed (content_of p.now) }
     ensures { result ≡ term_in (content_of p.now) (term_content term.now) }
 {
     match term {
         PTerm::Any => Term::Any,
         PTerm::Number(n) => Term::Number(*n),
-        PTerm::Plus(name, n) => Term::Plus(AgentId(agent_place(p, name)), *n),
-        PTerm::Minus(name, n) => Term::Minus(AgentId(agent_place(p, name)), *n),
+        PTerm::Plus(name, n) => Term::Plus(AgentId(p.agent(name)), *n),
+        PTerm::Minus(name, n) => Term::Minus(AgentId(p.agent(name)), *n),
     }
-}
-
-/// The number of the agent of this name, and the count of agents where there is none.
-fn agent_place(p: &Parsed, name: &Word) -> u32
-    requires { IsFormed (content_of p.now) }
-    ensures { result ≡ place_of name.now.text (agent_names (content_of p.now)) }
-{
-    agent_at(p, name).unwrap_or(p.agents.len()) as u32
-}
-
-fn agent_at(p: &Parsed, name: &Word) -> Option<usize>
-    ensures { result ≡ position (λ agent. bytes_eq agent.name.text name.now.text) p.now.agents }
-{
-    p.agents.iter().position(|agent| is_same(&agent.name, name))
-}
-
-/// The number of the atom of this name, and the count of atoms where there is none.
-fn atom_place(p: &Parsed, name: &Word) -> u32
-    requires { IsFormed (content_of p.now) }
-    ensures { result ≡ place_of name.now.text (atom_names (content_of p.now)) }
-{
-    atom_at(p, name).unwrap_or(p.atoms.len()) as u32
-}
-
-fn atom_at(p: &Parsed, name: &Word) -> Option<usize>
-    ensures { result ≡ position (λ atom. bytes_eq atom.name.text name.now.text) p.now.atoms }
-{
-    p.atoms.iter().position(|atom| is_same(&atom.name, name))
-}
-
-/// Whether the words have the same bytes.
-fn is_same(one: &Word, two: &Word) -> bool
-    ensures { result ≡ bytes_eq one.now.text two.now.text }
-{
-    one.text.as_slice() == two.text.as_slice()
 }

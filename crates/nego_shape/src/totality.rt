@@ -8,16 +8,18 @@ ghost use Rattle.nego_shape.specs.Made.{placed_at};
 ghost use Rattle.nego_shape.specs.Faults.{first_uncovered, not_total_at, not_total_among, not_total};
 
 use crate::fault::{ShapeFault, ShapeKind};
-use crate::making::{cases_of, party_set, sizes_of};
+use crate::making::{cases_of, parties_of};
+use crate::numbering::Numbered;
+use crate::sizing::sizes_of;
 use nego_base::{Memory, OutcomeId};
 use nego_data::{Sizes, TableFault, table_of};
-use nego_reader::{POut, Parsed};
+use nego_reader::POut;
 use std::alloc::Global;
 
 /// The least joint data that the outcome's cases leave uncovered.
 fn uncovered(
     alloc: Global,
-    p: &Parsed,
+    p: &Numbered,
     sizes: &Sizes,
     n: usize,
     out: &POut,
@@ -28,7 +30,7 @@ fn uncovered(
     requires out { Contains (all_outs (content_of p.now)) (placed_at n (out_content out.now)) }
     ensures { IfOk result (λ d. d ≡ first_uncovered (sizes_in (content_of p.now)) (cases_in (content_of p.now) (out_content out.now))) }
 {
-    let parties = party_set(p, p.atoms[n].parties.as_slice());
+    let parties = parties_of(p, n);
     let cases = cases_of(alloc, p, out.cases.as_slice())?;
     match table_of(alloc, sizes, parties, cases.as_slice()) {
         Ok(_table) => Ok(None),
@@ -40,7 +42,7 @@ fn uncovered(
 /// The fault of the outcome of number o, where its cases leave joint data uncovered.
 fn not_total_at(
     alloc: Global,
-    p: &Parsed,
+    p: &Numbered,
     sizes: &Sizes,
     n: usize,
     o: usize,
@@ -65,7 +67,7 @@ fn not_total_at(
 /// The fault of the first of the atom's outcomes, numbered from o on, whose cases leave joint data uncovered.
 fn not_total_among(
     alloc: Global,
-    p: &Parsed,
+    p: &Numbered,
     sizes: &Sizes,
     n: usize,
     o: usize,
@@ -87,12 +89,12 @@ fn not_total_among(
 }
 
 /// The fault of the first outcome whose cases leave joint data uncovered.
-pub(crate) fn not_total(alloc: Global, p: &Parsed) -> Result<Option<ShapeFault>, Memory>
+pub(crate) fn not_total(alloc: Global, p: &Numbered) -> Result<Option<ShapeFault>, Memory>
     requires { IsFormed (content_of p.now) }
     ensures { IfOk result (λ fault. fault ≡ not_total p.now) }
 {
-    let sizes = sizes_of(alloc, p)?;
-    let atoms = p.atoms.as_slice();
+    let sizes = sizes_of(alloc, p.text())?;
+    let atoms = p.text().atoms.as_slice();
     let mut o = 0;
     for (n, atom) in atoms.iter().enumerate() {
         if let Some(fault) = not_total_among(alloc, p, &sizes, n, o, atom.outs.as_slice())? {

@@ -1,5 +1,6 @@
-use Rattle.std.proofs.Common.{List, map, sym, subst}
+use Rattle.std.proofs.Common.{List, map, sym, ap, subst, ◌∙◌}
 use Rattle.std.specs.List.{All}
+use Rattle.nego_reader.specs.declared.parsed.Parsed.{Parsed}
 use Rattle.nego_reader.specs.declared.parsed.PAtom.{PAtom}
 use Rattle.nego_reader.specs.Content.{AtomContent, content_of, atom_content}
 use Rattle.nego_shape.specs.Naming.{agent_names}
@@ -13,7 +14,7 @@ pub atom_part-requires-clause-declared : goal.atom_part-requires-clause-declared
 atom_part-requires-clause-declared c =
     let c0 = content_of c.args.p.now in
     let items : All (λ (atom : AtomContent). All (IsDeclared (agent_names c0)) atom.parties) (map atom_content c.deref-atom-items.result.now) =
-    subst (λ (xs : List PAtom). All (λ (atom : AtomContent). All (IsDeclared (agent_names c0)) atom.parties) (map atom_content xs)) (sym c.deref-atom-items.ensures) c.requires.declared.parties in
+    subst (λ (xs : List PAtom). All (λ (atom : AtomContent). All (IsDeclared (agent_names c0)) atom.parties) (map atom_content xs)) (sym (c.deref-atom-items.ensures ∙ ap (λ (p : Parsed). p.atoms) c.text.ensures)) c.requires.declared.parties in
     at_item (λ (atom : AtomContent). All (IsDeclared (agent_names c0)) atom.parties) atom_content c.deref-atom-items.result.now c.loop-atom.atom-index c.atom-item.result items c.loop-atom-test.true c.atom-item.is
 
 pub loop-atom-preserved : goal.loop-atom-preserved

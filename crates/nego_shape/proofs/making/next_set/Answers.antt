@@ -22,7 +22,7 @@ with-set-requires c =
     let d = at_item (λ (next : NextContent). IsDeclared (atom_names c0) next.atom) next_content c.deref-next-items.result.now c.loop-next.next-index c.next-item.result items c.loop-next-test.true c.next-item.is in
     let few = c.requires.shaped.few_atoms in
     let count = atoms-count c0 in
-    let at = c.atom_place.ensures in omega (arith, at, d, few, count)
+    let at = c.atom.ensures in omega (arith, at, d, few, count)
 
 pub loop-next-preserved : goal.loop-next-preserved
 loop-next-preserved c =
@@ -35,7 +35,7 @@ loop-next-preserved c =
           subst P (sym w.set-is) (
             w.with-set.ensures.rising,
             λ m. ap (is_in m) w.with-set.ensures.value
-                ∙ one_more_line c0 c.args.a items i c.next-item.result c.loop-next.set w.atom_place.result c.stands.result c.loop-next-test.true c.next-item.is c.stands.ensures w.if-stands.true w.atom_place.ensures c.loop-next.invariant.1 m,
+                ∙ one_more_line c0 c.args.a items i c.next-item.result c.loop-next.set w.atom.result c.stands.result c.loop-next-test.true c.next-item.is c.stands.ensures w.if-stands.true w.atom.ensures c.loop-next.invariant.1 m,
           )
       | else-stands w ↦
           subst P (sym w.set-is)

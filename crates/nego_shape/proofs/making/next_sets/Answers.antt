@@ -1,4 +1,5 @@
-use Rattle.std.proofs.Common.{◌≡◌, ◌≤◌, length, map, arith}
+use Rattle.std.proofs.Common.{◌≡◌, ◌≤◌, length, map, ap, ◌∙◌, arith}
+use Rattle.nego_reader.specs.declared.parsed.Parsed.{Parsed}
 use Rattle.nego_reader.specs.Content.{content_of, agent_content, out_content}
 use Rattle.nego_shape.specs.Naming.{next_atoms}
 use Rattle.nego_shape.proofs.PartsMade.{entries_filled}
@@ -12,5 +13,5 @@ returns c =
     let count : length (map agent_content c.args.p.now.agents) ≡ length c.args.p.now.agents = length-map c.args.p.now.agents agent_content in
     let sixteen = c.loop-a.invariant.0 in
     let past = c.loop-a-test.false in
-    let end = c.len-a-end.ensures in
+    let end = c.len-a-end.ensures ∙ ap (λ (p : Parsed). length p.agents) c.text.ensures in
     entries_filled (next_atoms c0 (out_content c.args.out.now)) c.loop-a.nexts (length c.args.p.now.agents) (omega (arith, few, count, sixteen)) (λ k below. c.loop-a.invariant.1 k (omega (arith, below, past, end)))

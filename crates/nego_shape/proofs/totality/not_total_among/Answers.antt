@@ -1,4 +1,4 @@
-use Rattle.std.proofs.Common.{sym, ◌∙◌, ◌+◌, ◌≡◌, subst}
+use Rattle.std.proofs.Common.{sym, ◌∙◌, ◌+◌, subst}
 use Rattle.std.specs.Prelude.{Contains}
 use Rattle.nego_reader.specs.Content.{content_of, out_content}
 use Rattle.nego_shape.specs.Naming.{all_outs}

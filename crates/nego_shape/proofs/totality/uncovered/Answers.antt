@@ -1,56 +1,40 @@
-use Rattle.std.proofs.Common.{◌≡◌, ◌<◌, List, [], length, map, Some, slice_get, sym, ap, subst, ◌∙◌}
+use Rattle.std.proofs.Common.{◌≡◌, ◌<◌, List, length, map, Some, sym, ap, subst, ◌∙◌}
 use Rattle.std.specs.List.{All}
 use Rattle.std.proofs.lemmas.List.{length-map}
 use Rattle.std.proofs.lemmas.List.Elements.{All-contains}
-use Rattle.nego_base.specs.declared.line.Word.{Word}
 use Rattle.nego_data.specs.declared.cases.Case.{Case}
-use Rattle.nego_data.specs.Cases.{rows_of}
-use Rattle.nego_data.specs.CaseForm.{NamesOnly, AssignsOnce, AssignsBelow, IsCovered, IsFirstUncovered, HasTableFault}
-use Rattle.nego_data.specs.Data.{data_count}
-use Rattle.nego_model.proofs.Readers.{all_at_place, mapped_at}
-use Rattle.nego_reader.specs.Content.{AtomContent, content_of, atom_content, out_content, case_content, texts}
-use Rattle.nego_shape.specs.Naming.{PlacedOut, agent_names, sizes_in, all_outs, parties_in, parties_at, cases_in, case_in}
-use Rattle.nego_shape.specs.Shaped.{IsAllCovered, IsDeclared, IsNamedParty, AreDifferent, case_names, assigned_names}
+use Rattle.nego_data.specs.CaseForm.{NamesOnly, AssignsOnce, AssignsBelow, IsFirstUncovered, HasTableFault}
+use Rattle.nego_reader.specs.Content.{content_of, out_content, case_content}
+use Rattle.nego_shape.specs.Naming.{PlacedOut, agent_names, sizes_in, all_outs, parties_at, cases_in, case_in}
+use Rattle.nego_shape.specs.Shaped.{IsDeclared, IsNamedParty, AreDifferent, case_names, assigned_names}
 use Rattle.nego_shape.specs.Made.{placed_at}
 use Rattle.nego_shape.proofs.ShapedCases.{cases_in-named, cases_in-once}
-use Rattle.nego_shape.proofs.Places.{parties_in-rises}
+use Rattle.nego_shape.proofs.Places.{parties_at-below}
 use Rattle.nego_shape.proofs.PartsMade.{cases_read}
 use Rattle.std.specs.Prelude.{None}
 use Rattle.nego_shape.specs.Faults.{first_uncovered}
 use Rattle.nego_shape.proofs.SoundShape.{first_is, first_is_none}
 use Rattle.nego_shape.proofs.totality.uncovered.Goals as goal
-use Rattle.std.specs.Option.{option_map_or}
-
-pub party_set-parties-requires-clause-declared : goal.party_set-parties-requires-clause-declared
-party_set-parties-requires-clause-declared c =
-    let c0 = content_of c.args.p.now in
-    let here : slice_get c0.atoms c.args.n ≡ Some (atom_content c.index.result.now) = mapped_at atom_content c.args.p.now.atoms c.args.n c.index.result.now c.index.ensures in
-    subst (λ (ws : List Word). All (IsDeclared (agent_names c0)) (texts ws)) (sym c.as_slice.ensures)
-    (all_at_place (λ (atom : AtomContent). All (IsDeclared (agent_names c0)) atom.parties) c0.atoms c.args.n (atom_content c.index.result.now) c.requires.shaped.declared.parties here)
 
 pub table_of-requires-clause-parties : goal.table_of-requires-clause-parties
 table_of-requires-clause-parties c =
     let c0 = content_of c.args.p.now in
-    let below = (parties_in-rises c0 (texts c.as_slice.result.now)).below in
     let count : length c.args.sizes.now ≡ length c0.agents = ap length c.requires.sizes ∙ length-map c0.agents (λ agent. agent.size) in
-    subst (All (λ a. a < length c.args.sizes.now)) (sym c.party_set-parties.ensures) (subst (λ n. All (λ a. a < n) (parties_in c0 (texts c.as_slice.result.now))) (sym count) below)
+    subst (All (λ a. a < length c.args.sizes.now)) (sym c.parties_of-parties.ensures) (subst (λ n. All (λ a. a < n) (parties_at c0 c.args.n)) (sym count) (parties_at-below c0 c.args.n))
 
 pub table_of-requires-clause-named : goal.table_of-requires-clause-named
 table_of-requires-clause-named c =
     let c0 = content_of c.args.p.now in
-    let here : slice_get c0.atoms c.args.n ≡ Some (atom_content c.index.result.now) = mapped_at atom_content c.args.p.now.atoms c.args.n c.index.result.now c.index.ensures in
-    let parties : c.party_set-parties.result ≡ parties_at c0 c.args.n =
-    c.party_set-parties.ensures ∙ (ap (λ (ws : List Word). parties_in c0 (texts ws)) c.as_slice.ensures ∙ sym (ap (λ o. option_map_or (λ (atom : AtomContent). parties_in c0 atom.parties) o []) here)) in
-    let cases : c.as_slice-3.result.now ≡ cases_in c0 (out_content c.args.out.now) =
-    c.as_slice-3.ensures ∙ (c.in_ok-cases.ensures ∙ (ap (map (λ case. case_in c0 (case_content case))) c.as_slice-2.ensures ∙ cases_read c0 c.args.out.now.cases)) in
-    subst (λ ps. All (NamesOnly ps) c.as_slice-3.result.now) (sym parties) (subst (λ (cs : List Case). All (NamesOnly (parties_at c0 c.args.n)) cs) (sym cases)
+    let cases : c.as_slice-2.result.now ≡ cases_in c0 (out_content c.args.out.now) =
+    c.as_slice-2.ensures ∙ (c.in_ok-cases.ensures ∙ (ap (map (λ case. case_in c0 (case_content case))) c.as_slice.ensures ∙ cases_read c0 c.args.out.now.cases)) in
+    subst (λ ps. All (NamesOnly ps) c.as_slice-2.result.now) (sym c.parties_of-parties.ensures) (subst (λ (cs : List Case). All (NamesOnly (parties_at c0 c.args.n)) cs) (sym cases)
     (cases_in-named c0 (parties_at c0 c.args.n) (map case_content c.args.out.now.cases) (All-contains (λ (placed : PlacedOut). All (λ case. All (IsNamedParty c0 placed.atom) (case_names case)) placed.out.cases) (all_outs c0) (placed_at c.args.n (out_content c.args.out.now)) c.requires.shaped.parties_alone c.requires.out)))
 
 pub table_of-requires-clause-once : goal.table_of-requires-clause-once
 table_of-requires-clause-once c =
     let c0 = content_of c.args.p.now in
-    let cases : c.as_slice-3.result.now ≡ cases_in c0 (out_content c.args.out.now) =
-    c.as_slice-3.ensures ∙ (c.in_ok-cases.ensures ∙ (ap (map (λ case. case_in c0 (case_content case))) c.as_slice-2.ensures ∙ cases_read c0 c.args.out.now.cases)) in
+    let cases : c.as_slice-2.result.now ≡ cases_in c0 (out_content c.args.out.now) =
+    c.as_slice-2.ensures ∙ (c.in_ok-cases.ensures ∙ (ap (map (λ case. case_in c0 (case_content case))) c.as_slice.ensures ∙ cases_read c0 c.args.out.now.cases)) in
     subst (λ (cs : List Case). All AssignsOnce cs) (sym cases)
     (cases_in-once c0 (map case_content c.args.out.now.cases)
     (All-contains (λ (placed : PlacedOut). All (λ case. All (IsDeclared (agent_names c0)) (case_names case)) placed.out.cases) (all_outs c0) (placed_at c.args.n (out_content c.args.out.now)) c.requires.shaped.declared.cases c.requires.out)
@@ -59,24 +43,24 @@ table_of-requires-clause-once c =
 pub table_of-requires-clause-fits : goal.table_of-requires-clause-fits
 table_of-requires-clause-fits c =
     let c0 = content_of c.args.p.now in
-    let cases : c.as_slice-3.result.now ≡ cases_in c0 (out_content c.args.out.now) =
-    c.as_slice-3.ensures ∙ (c.in_ok-cases.ensures ∙ (ap (map (λ case. case_in c0 (case_content case))) c.as_slice-2.ensures ∙ cases_read c0 c.args.out.now.cases)) in
-    subst (λ sizes. All (AssignsBelow sizes) c.as_slice-3.result.now) (sym c.requires.sizes) (subst (λ (cs : List Case). All (AssignsBelow (sizes_in c0)) cs) (sym cases)
+    let cases : c.as_slice-2.result.now ≡ cases_in c0 (out_content c.args.out.now) =
+    c.as_slice-2.ensures ∙ (c.in_ok-cases.ensures ∙ (ap (map (λ case. case_in c0 (case_content case))) c.as_slice.ensures ∙ cases_read c0 c.args.out.now.cases)) in
+    subst (λ sizes. All (AssignsBelow sizes) c.as_slice-2.result.now) (sym c.requires.sizes) (subst (λ (cs : List Case). All (AssignsBelow (sizes_in c0)) cs) (sym cases)
     (All-contains (λ (placed : PlacedOut). All (AssignsBelow (sizes_in c0)) (cases_in c0 placed.out)) (all_outs c0) (placed_at c.args.n (out_content c.args.out.now)) c.requires.shaped.below c.requires.out))
 
 pub returns-in-Ok : goal.returns-in-Ok
 returns-in-Ok c =
     let c0 = content_of c.args.p.now in
-    let cases : c.as_slice-3.result.now ≡ cases_in c0 (out_content c.args.out.now) =
-    c.as_slice-3.ensures ∙ (c.in_ok-cases.ensures ∙ (ap (map (λ case. case_in c0 (case_content case))) c.as_slice-2.ensures ∙ cases_read c0 c.args.out.now.cases)) in
-    subst (λ (cs : List Case). None ≡ first_uncovered (sizes_in c0) cs) cases (subst (λ sizes. None ≡ first_uncovered sizes c.as_slice-3.result.now) c.requires.sizes (sym (first_is_none c.args.sizes.now c.as_slice-3.result.now c.in-Ok.ensures.covered)))
+    let cases : c.as_slice-2.result.now ≡ cases_in c0 (out_content c.args.out.now) =
+    c.as_slice-2.ensures ∙ (c.in_ok-cases.ensures ∙ (ap (map (λ case. case_in c0 (case_content case))) c.as_slice.ensures ∙ cases_read c0 c.args.out.now.cases)) in
+    subst (λ (cs : List Case). None ≡ first_uncovered (sizes_in c0) cs) cases (subst (λ sizes. None ≡ first_uncovered sizes c.as_slice-2.result.now) c.requires.sizes (sym (first_is_none c.args.sizes.now c.as_slice-2.result.now c.in-Ok.ensures.covered)))
 
 pub returns : goal.returns
 returns c =
     let c0 = content_of c.args.p.now in
-    let cases : c.as_slice-3.result.now ≡ cases_in c0 (out_content c.args.out.now) =
-    c.as_slice-3.ensures ∙ (c.in_ok-cases.ensures ∙ (ap (map (λ case. case_in c0 (case_content case))) c.as_slice-2.ensures ∙ cases_read c0 c.args.out.now.cases)) in
+    let cases : c.as_slice-2.result.now ≡ cases_in c0 (out_content c.args.out.now) =
+    c.as_slice-2.ensures ∙ (c.in_ok-cases.ensures ∙ (ap (map (λ case. case_in c0 (case_content case))) c.as_slice.ensures ∙ cases_read c0 c.args.out.now.cases)) in
     let d = c.in-Err-NotTotal.d in
-    let fault : IsFirstUncovered c.args.sizes.now c.as_slice-3.result.now d =
-    subst (HasTableFault c.args.sizes.now c.as_slice-3.result.now) c.in-Err-NotTotal.field-0-is c.in-Err-NotTotal.ensures.err in
-    subst (λ (cs : List Case). Some d ≡ first_uncovered (sizes_in c0) cs) cases (subst (λ sizes. Some d ≡ first_uncovered sizes c.as_slice-3.result.now) c.requires.sizes (sym (first_is c.args.sizes.now c.as_slice-3.result.now d fault)))
+    let fault : IsFirstUncovered c.args.sizes.now c.as_slice-2.result.now d =
+    subst (HasTableFault c.args.sizes.now c.as_slice-2.result.now) c.in-Err-NotTotal.field-0-is c.in-Err-NotTotal.ensures.err in
+    subst (λ (cs : List Case). Some d ≡ first_uncovered (sizes_in c0) cs) cases (subst (λ sizes. Some d ≡ first_uncovered sizes c.as_slice-2.result.now) c.requires.sizes (sym (first_is c.args.sizes.now c.as_slice-2.result.now d fault)))

@@ -5,12 +5,12 @@ use Rattle.nego_reader.specs.Content.{content_of}
 use Rattle.nego_shape.specs.Naming.{sizes_in}
 use Rattle.nego_shape.proofs.SizesFit.{no_size_fault, ok_from_no_fault}
 use Rattle.nego_shape.proofs.PartsMade.{sizes_read}
-use Rattle.nego_shape.proofs.making.sizes_of.Goals as goal
+use Rattle.nego_shape.proofs.sizing.sizes_of.Goals as goal
 
 pub unwrap-requires : goal.unwrap-requires
 unwrap-requires c =
     let is : c.as_slice.result.now ≡ sizes_in (content_of c.args.p.now) = c.as_slice.ensures ∙ (c.in_ok-sizes.ensures ∙ sizes_read c.args.p.now.agents) in
-    ok_from_no_fault (HasFault c.as_slice.result.now) c.new.result c.new.ensures.err (λ e h. no_size_fault c.as_slice.result.now e (subst AreSizes (sym is) c.requires.sizes) h)
+    ok_from_no_fault (HasFault c.as_slice.result.now) c.new.result c.new.ensures.err (λ e h. no_size_fault c.as_slice.result.now e (subst AreSizes (sym is) c.requires) h)
 
 pub returns : goal.returns
 returns c =

@@ -1,0 +1,115 @@
+//! The numbers of names: agents and atoms count from 0 in the order in which the text first names them.
+
+ghost use Rattle.std.specs.Prelude.{◌≡◌, ◌≤◌, map, IfOk, OnOk};
+ghost use Rattle.std.specs.Str.{bytes_eq};
+ghost use Rattle.indexmap.specs.IndexSet.{index_set_len, insert_key};
+ghost use Rattle.nego_reader.specs.Content.{content_of};
+ghost use Rattle.nego_shape.specs.Naming.{place_of, agent_names, atom_names};
+ghost use Rattle.nego_shape.specs.Shaped.{AreDifferent, AreNamedOnce, IsFormed};
+
+use indexmap::IndexSet;
+use nego_base::{Memory, Text, Word};
+use nego_reader::{PAgent, PAtom, Parsed};
+use std::alloc::Global;
+use std::marker::Model;
+
+/// A text with the numbers of its names. Contracts see the text.
+#[derive(Drop)]
+pub(crate) struct Numbered<'a> {
+    text: &'a Parsed,
+    agents: IndexSet<Text>,
+    atoms: IndexSet<Text>,
+}
+
+impl<'a> Model for Numbered<'a> {
+    ghost use Rattle.std.specs.Prelude.{◌≡◌};
+    ghost use Rattle.nego_reader.specs.declared.parsed.Parsed.{Parsed};
+    ghost use Rattle.nego_reader.specs.Content.{content_of};
+    ghost use Rattle.nego_shape.specs.Naming.{agent_names, atom_names};
+
+    ghost Value = { Parsed };
+
+    ghost view = { λ p. p.text.now };
+
+    ghost invariant = { λ p. (p.agents.keys ≡ agent_names (content_of p.text.now)) × (p.atoms.keys ≡ atom_names (content_of p.text.now)) };
+}
+
+impl<'a> Numbered<'a> {
+    /// Numbers the names of the text, in which no name stands twice.
+    pub(crate) fn new(alloc: Global, text: &'a Parsed) -> Result<Numbered<'a>, Memory>
+        requires { AreNamedOnce (content_of text.now) }
+        ensures { IfOk result (λ p. p ≡ text.now) }
+    {
+        let agents = agent_numbers(alloc, text.agents.as_slice())?;
+        let atoms = atom_numbers(alloc, text.atoms.as_slice())?;
+        Ok(Numbered {
+            text,
+            agents,
+            atoms,
+        })
+    }
+
+    /// The text.
+    pub(crate) fn text(&self) -> &Parsed
+        ensures { result.now ≡ self.now }
+    {
+        self.text
+    }
+
+    /// The number of the agent of this name, and the count of agents where there is none.
+    pub(crate) fn agent(&self, name: &Word) -> u32
+        requires { IsFormed (content_of self.now) }
+        ensures { result ≡ place_of name.now.text (agent_names (content_of self.now)) }
+    {
+        number_of(&self.agents, name)
+    }
+
+    /// The number of the atom of this name, and the count of atoms where there is none.
+    pub(crate) fn atom(&self, name: &Word) -> u32
+        requires { IsFormed (content_of self.now) }
+        ensures { result ≡ place_of name.now.text (atom_names (content_of self.now)) }
+    {
+        number_of(&self.atoms, name)
+    }
+}
+
+/// The agents' names, numbered.
+fn agent_numbers(alloc: Global, agents: &[PAgent]) -> Result<IndexSet<Text>, Memory>
+    requires { AreDifferent (map (λ agent. agent.name.text) agents.now) }
+    ensures { IfOk result (λ names. names.keys ≡ map (λ agent. agent.name.text) agents.now) }
+{
+    let mut names = IndexSet::new(alloc);
+    for agent in agents {
+        add(alloc, &mut names, &agent.name)?;
+    }
+    Ok(names)
+}
+
+/// The atoms' names, numbered.
+fn atom_numbers(alloc: Global, atoms: &[PAtom]) -> Result<IndexSet<Text>, Memory>
+    requires { AreDifferent (map (λ atom. atom.name.text) atoms.now) }
+    ensures { IfOk result (λ names. names.keys ≡ map (λ atom. atom.name.text) atoms.now) }
+{
+    let mut names = IndexSet::new(alloc);
+    for atom in atoms {
+        add(alloc, &mut names, &atom.name)?;
+    }
+    Ok(names)
+}
+
+/// Gives the name the next number.
+fn add(alloc: Global, names: &mut IndexSet<Text>, name: &Word) -> Result<(), Memory>
+    ensures { OnOk result (names.new.keys ≡ insert_key bytes_eq names.old.keys name.now.text) }
+{
+    let text = Text::copy(alloc, name.text.as_slice())?;
+    names.insert(text)?;
+    Ok(())
+}
+
+/// The number of the name, and the count of names where it is none of them.
+fn number_of(names: &IndexSet<Text>, name: &Word) -> u32
+    requires { index_set_len names.now ≤ 64 }
+    ensures { result ≡ place_of name.now.text names.now.keys }
+{
+    names.get_index_of(&name.text).unwrap_or(names.len()) as u32
+}
