@@ -4,6 +4,7 @@ use Rattle.std.proofs.lemmas.List.{length-map, get_or-map}
 use Rattle.std.proofs.lemmas.List.Elements.{All-nil, All-cons, All-head, All-tail, All-filter}
 use Rattle.std.specs.List.{All}
 use Rattle.nego_base.specs.Members.{is_in}
+use Rattle.nego_data.specs.Data.{data_count}
 use Rattle.nego_model.specs.Joining.{By, Runs}
 use Rattle.nego_model.specs.Expression.{Means}
 use Rattle.nego_model.specs.Diagram.{PlainDiagram, negotiation_of, relation_of}
@@ -11,7 +12,7 @@ use Rattle.nego_model.specs.Summary.{final_outcomes}
 use Rattle.nego_base.proofs.Members.{All-members}
 use Rattle.nego_expr.specs.Work.{WorkOutcome, PlainWork, IsWork, negotiation_of_work, work_outcomes, outcome_at, ByWork}
 use Rattle.nego_expr.specs.Use.{outcomes_at}
-use Rattle.nego_expr.specs.Fresh.{Stands}
+use Rattle.nego_expr.specs.Fresh.{Stands, StandsLocally}
 use Rattle.nego_expr.specs.Finish.{finals_of, summary_of_work, FinishedWorksTell}
 use Rattle.nego_expr.proofs.Alive.{each_found, ByWork-found}
 use Rattle.nego_expr.proofs.OneAtomLeft.{one_atom_works}
@@ -45,7 +46,7 @@ nobody = record { number = 0; atom = 0; targets = []; node = 0; passed = [] }
 pub names_as_many : (work : PlainWork) → IsWork work → length work.names ≡ length (outcomes_at work work.last)
 names_as_many work ok = ok.named ∙ length-map (outcomes_at work work.last) (λ outcome. outcome.number)
 
-module _ (diagram : PlainDiagram) (work : PlainWork) (ok : IsWork work) (one : length work.atoms ≡ 1) (stands : Stands work diagram) where
+module _ (diagram : PlainDiagram) (work : PlainWork) (ok : IsWork work) (one : length work.atoms ≡ 1) (stands : StandsLocally work diagram) where
   -- the outcome at a place is found, and its node is that of the final outcome there
   each_final : (k d e : ℕ) → k < length (outcomes_at work work.last) →
       Means (By (relation_of diagram)) work.nodes (slice_index (map (λ final. final.node) (summary_of_work work).finals) k) d e
@@ -67,10 +68,10 @@ module _ (diagram : PlainDiagram) (work : PlainWork) (ok : IsWork work) (one : l
   final_in : (k : ℕ) → k < length (final_outcomes diagram) → IsTrue (is_in (slice_index (final_outcomes diagram) k) (final_outcomes diagram))
   final_in k h = All-members (λ f. IsTrue (is_in f (final_outcomes diagram))) (final_outcomes diagram) (λ f m. m) k 0 h
 
-  each : (k d e : ℕ) → k < length (final_outcomes diagram) →
+  each : (k d e : ℕ) → d < data_count diagram.sizes → k < length (final_outcomes diagram) →
       Means (By (relation_of diagram)) work.nodes (slice_index (map (λ final. final.node) (summary_of_work work).finals) k) d e
       ↔ Runs (negotiation_of diagram) (By (relation_of diagram)) (slice_index (final_outcomes diagram) k) d e
-  each k d e h = (λ m. s.1 (r.1 (subst (λ g. ByWork (relation_of diagram) work g d e) (sym same) (t.0 m))), λ m. t.1 (subst (λ g. ByWork (relation_of diagram) work g d e) same (r.0 (s.0 m))))
+  each k d e below h = (λ m. s.1 (r.1 (subst (λ g. ByWork (relation_of diagram) work g d e) (sym same) (t.0 m))), λ m. t.1 (subst (λ g. ByWork (relation_of diagram) work g d e) same (r.0 (s.0 m))))
     where
       f : ℕ
       f = slice_index (final_outcomes diagram) k
@@ -83,10 +84,14 @@ module _ (diagram : PlainDiagram) (work : PlainWork) (ok : IsWork work) (one : l
       t = each_final k d e (subst (λ n. k < n) (ap length stands.finals ∙ length-map (outcomes_at work work.last) (λ outcome. outcome.number)) h)
 
       s : Runs (negotiation_of diagram) (By (relation_of diagram)) f d e ↔ Runs (negotiation_of_work work) (ByWork (relation_of diagram) work) f d e
-      s = stands.runs f d e (final_in k h)
+      s = stands.runs f d e below (final_in k h)
 
       r : Runs (negotiation_of_work work) (ByWork (relation_of diagram) work) f d e ↔ ByWork (relation_of diagram) work f d e
       r = (one_atom_works work ok one).1 (relation_of diagram) f d e (subst (λ fs. IsTrue (is_in f fs)) stands.finals (final_in k h))
+
+-- what stands for a diagram does so for joint data
+pub Stands-locally : (work : PlainWork) (diagram : PlainDiagram) → Stands work diagram → StandsLocally work diagram
+Stands-locally work diagram stands = record { sound = stands.sound; finals = stands.finals; runs = λ f d e below h. stands.runs f d e h }
 
 -- the summary of a work of one atom that stands for a diagram tells the diagram
 pub finished_works : FinishedWorksTell
@@ -98,5 +103,5 @@ finished_works diagram work ok one stands named = record {
   };
   sound = stands.sound.1 (one_atom_works work ok one).0;
   named = names-finals_of work.names (outcomes_at work work.last) (names_as_many work ok) ∙ named;
-  each = λ k d e h _ _. each diagram work ok one stands k d e h;
+  each = λ k d e h below _. each diagram work ok one stands k d e below h;
 }

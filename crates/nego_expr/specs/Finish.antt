@@ -7,7 +7,7 @@ use Rattle.nego_model.specs.Diagram.{PlainDiagram, outcome_name}
 use Rattle.nego_model.specs.Summary.{PlainFinal, PlainSummary, final_outcomes, Tells}
 use Rattle.nego_expr.specs.Work.{WorkOutcome, PlainWork, IsWork, negotiation_of_work, work_outcomes, ByWork}
 use Rattle.nego_expr.specs.Use.{outcomes_at}
-use Rattle.nego_expr.specs.Fresh.{Stands}
+use Rattle.nego_expr.specs.Fresh.{StandsLocally}
 
 -- the names, each with the node of the outcome at its place
 abbrev pub finals_of : List (List ℕ) → List WorkOutcome → List PlainFinal
@@ -28,5 +28,5 @@ OneAtomWorksAreSound = (work : PlainWork) → IsWork work → length work.atoms 
 
 -- The summary of a work of one atom that stands for a diagram, with the names of its final outcomes, tells the diagram.
 abbrev pub FinishedWorksTell : Type 0
-FinishedWorksTell = (diagram : PlainDiagram) (work : PlainWork) → IsWork work → length work.atoms ≡ 1 → Stands work diagram →
+FinishedWorksTell = (diagram : PlainDiagram) (work : PlainWork) → IsWork work → length work.atoms ≡ 1 → StandsLocally work diagram →
     work.names ≡ map (outcome_name diagram) (final_outcomes diagram) → Tells (summary_of_work work) diagram

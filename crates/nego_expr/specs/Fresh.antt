@@ -1,7 +1,8 @@
 -- The fresh work of a deterministic diagram.
-use Rattle.std.specs.Prelude.{◌≡◌, ◌↔◌, ℕ, ◌+◌, List, [], ◌∷◌, length, map, slice_get, IsTrue}
+use Rattle.std.specs.Prelude.{◌≡◌, ◌↔◌, ℕ, ◌+◌, ◌<◌, List, [], ◌∷◌, length, map, slice_get, IsTrue}
 use Rattle.std.specs.List.{range_with_len}
 use Rattle.nego_base.specs.Members.{is_in}
+use Rattle.nego_data.specs.Data.{data_count}
 use Rattle.nego_model.specs.Negotiation.{IsDeterministic}
 use Rattle.nego_model.specs.Occurring.{Occurrence, opening_marking, leaves, IsSound}
 use Rattle.nego_model.specs.Joining.{By, Runs}
@@ -51,6 +52,13 @@ pub record Stands (work : PlainWork) (diagram : PlainDiagram) : Type 0 where
   pub sound : IsSound (negotiation_of diagram) ↔ IsSound (negotiation_of_work work)
   pub finals : final_outcomes diagram ≡ work_outcomes work work.last
   pub runs : (f d e : ℕ) → IsTrue (is_in f (final_outcomes diagram)) →
+      Runs (negotiation_of diagram) (By (relation_of diagram)) f d e ↔ Runs (negotiation_of_work work) (ByWork (relation_of diagram) work) f d e
+
+-- The same for joint data alone, which is what the uses of all rules keep.
+pub record StandsLocally (work : PlainWork) (diagram : PlainDiagram) : Type 0 where
+  pub sound : IsSound (negotiation_of diagram) ↔ IsSound (negotiation_of_work work)
+  pub finals : final_outcomes diagram ≡ work_outcomes work work.last
+  pub runs : (f d e : ℕ) → d < data_count diagram.sizes → IsTrue (is_in f (final_outcomes diagram)) →
       Runs (negotiation_of diagram) (By (relation_of diagram)) f d e ↔ Runs (negotiation_of_work work) (ByWork (relation_of diagram) work) f d e
 
 -- The fresh work of a deterministic diagram is a work, and stands for the diagram.

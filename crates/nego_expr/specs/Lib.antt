@@ -5,5 +5,6 @@ pub mod Local
 pub mod Plain
 pub mod SummaryText
 pub mod Use
+pub mod Uses
 pub mod Work
 pub mod WorkView

@@ -36,7 +36,7 @@ pub record Composes (from : PlainWork) (x o : ℕ) (to : PlainWork) (spare : ℕ
 -- ---- lists
 
 -- one more at the end
-nodes_then-append : (x : ℕ) (done : List WorkOutcome) (z : WorkOutcome) → nodes_then x (done ++ z ∷ []) ≡ nodes_then x done ++ Then x z.node ∷ []
+pub nodes_then-append : (x : ℕ) (done : List WorkOutcome) (z : WorkOutcome) → nodes_then x (done ++ z ∷ []) ≡ nodes_then x done ++ Then x z.node ∷ []
 nodes_then-append x [] z = refl
 nodes_then-append x (y ∷ ys) z = ap (◌∷◌ (Then x y.node)) (nodes_then-append x ys z)
 
@@ -47,11 +47,11 @@ with_nodes_from-append n (y ∷ ys) z =
     ap (◌∷◌ (with_node n y)) (with_nodes_from-append (n + 1) ys z ∙ ap (λ i. with_nodes_from (n + 1) ys ++ with_node i z ∷ []) e)
 
 -- what holds of all of two lists, one after the other, holds of all of either
-All-both : (P : WorkOutcome → Type 0) (xs ys : List WorkOutcome) → All P (xs ++ ys) → All P xs × All P ys
+pub All-both : (P : WorkOutcome → Type 0) (xs ys : List WorkOutcome) → All P (xs ++ ys) → All P xs × All P ys
 All-both P [] ys h = (All-nil P, h)
 All-both P (x ∷ xs) ys h = let k = All-both P xs ys (All-tail P x (xs ++ ys) h) in (All-cons P x xs (All-head P x (xs ++ ys) h) k.0, k.1)
 
-All-push : (P : WorkOutcome → Type 0) (xs : List WorkOutcome) (z : WorkOutcome) → All P xs → P z → All P (xs ++ z ∷ [])
+pub All-push : (P : WorkOutcome → Type 0) (xs : List WorkOutcome) (z : WorkOutcome) → All P xs → P z → All P (xs ++ z ∷ [])
 All-push P [] z h p = All-cons P z [] p (All-nil P)
 All-push P (x ∷ xs) z h p = All-cons P x (xs ++ z ∷ []) (All-head P x xs h) (All-push P xs z (All-tail P x xs h) p)
 
@@ -73,7 +73,7 @@ none_below n o (y ∷ ys) h =
     ∙ none_below (n + 1) o ys (All-tail (λ z. z.number < o) y ys h)
 
 -- the first of those that rise from it
-found_first : (o : ℕ) (rest : List WorkOutcome) (z : WorkOutcome) → RisesFrom o (numbers_of rest) → outcome_among rest o ≡ Some z →
+pub found_first : (o : ℕ) (rest : List WorkOutcome) (z : WorkOutcome) → RisesFrom o (numbers_of rest) → outcome_among rest o ≡ Some z →
     (others : List WorkOutcome) × (rest ≡ z ∷ others) × (z.number ≡ o) × RisesFrom (o + 1) (numbers_of others)
 found_first o [] z h k = absurd (none-some z k)
 found_first o (y ∷ ys) z h k = ⊎_elim
@@ -85,14 +85,14 @@ found_first o (y ∷ ys) z h k = ⊎_elim
     (found_cases y ys o z k)
 
 -- where none is found, they rise from the next
-none_first : (o : ℕ) (rest : List WorkOutcome) → RisesFrom o (numbers_of rest) → outcome_among rest o ≡ None → RisesFrom (o + 1) (numbers_of rest)
+pub none_first : (o : ℕ) (rest : List WorkOutcome) → RisesFrom o (numbers_of rest) → outcome_among rest o ≡ None → RisesFrom (o + 1) (numbers_of rest)
 none_first o [] h k = tt
 none_first o (y ∷ ys) h k =
     let low : o ≤ y.number = h.0 in
     let other : y.number ≢ o = λ e. none-some y (sym k ∙ subst (λ n. outcome_among (y ∷ ys) n ≡ Some y) e (outcome_among_first y ys)) in
     (omega (arith, low, other), h.1)
 
-none_left : (o : ℕ) (rest : List WorkOutcome) → RisesFrom o (numbers_of rest) → All (λ z. z.number < o) rest → rest ≡ []
+pub none_left : (o : ℕ) (rest : List WorkOutcome) → RisesFrom o (numbers_of rest) → All (λ z. z.number < o) rest → rest ≡ []
 none_left o [] h k = refl
 none_left o (y ∷ ys) h k = absurd (let low : o ≤ y.number = h.0 in let high : y.number < o = All-head (λ z. z.number < o) y ys k in let no_more : ⊥ = omega (arith, low, high) in no_more)
 

@@ -4,6 +4,7 @@ use Rattle.std.proofs.lemmas.Bool.{false_from_ne_true, cases_lt, lt-ltb, ltb-tru
 use Rattle.std.proofs.lemmas.Option.{none-some, same_Some}
 use Rattle.std.proofs.lemmas.List.Elements.{All-head, All-filter}
 use Rattle.std.specs.List.{All, range_with_len}
+use Rattle.std.specs.Option.{option_map_or}
 use Rattle.nego_base.specs.Members.{is_in}
 use Rattle.nego_base.specs.declared.ids.OutcomeId.{OutcomeId}
 use Rattle.nego_base.proofs.BoolLaws.{same_tests}
@@ -16,7 +17,7 @@ use Rattle.nego_expr.proofs.WorkForm.{outcome_found, found-atom, found_outcome}
 
 module _ (work : PlainWork) (ok : IsWork work) (n : ℕ) where
   -- a number is one of the atom's outcomes exactly where what is found by it is of the atom
-  pub found-is_of : (o : ℕ) (z : WorkOutcome) → outcome_at work o ≡ Some z → (z.atom == n) ≡ is_in o (work_outcomes work n)
+  found-is_of : (o : ℕ) (z : WorkOutcome) → outcome_at work o ≡ Some z → (z.atom == n) ≡ is_in o (work_outcomes work n)
   found-is_of o z h = same_tests (z.atom == n) (is_in o (work_outcomes work n))
       (λ e. found_outcome work ok.numbers_rise n o z h (eqb-true z.atom n e))
       (λ k. eq-eqb z.atom n (found-atom work ok.numbers_rise n o z h k))
@@ -25,8 +26,16 @@ module _ (work : PlainWork) (ok : IsWork work) (n : ℕ) where
   found o h = outcome_found work ok.numbers_rise (λ x. x.number < work.numbers) n o ok.numbers_used h
 
   -- none where none is found
-  pub none-is_of : (o : ℕ) → outcome_at work o ≡ None → false ≡ is_in o (work_outcomes work n)
+  none-is_of : (o : ℕ) → outcome_at work o ≡ None → false ≡ is_in o (work_outcomes work n)
   none-is_of o h = sym (false_from_ne_true (is_in o (work_outcomes work n)) (λ k. let z = found o k in none-some z.0 (sym h ∙ z.1)))
+
+  -- what is found by a number is of the atom exactly where the number is one of the atom's outcomes
+  pub same_is_of : (o : ℕ) → option_map_or (λ z. z.atom == n) (outcome_at work o) false ≡ is_in o (work_outcomes work n)
+  same_is_of o = go (outcome_at work o) refl
+    where
+      go : (f : Option WorkOutcome) → outcome_at work o ≡ f → option_map_or (λ z. z.atom == n) f false ≡ is_in o (work_outcomes work n)
+      go None e = none-is_of o e
+      go (Some z) e = found-is_of o z e
 
   -- the first that is met is the least
   pub least_met : (o : ℕ) → is_in o (work_outcomes work n) ≡ true → ((p : ℕ) → p < o → is_in p (work_outcomes work n) ≡ false) → Some o ≡ slice_get (work_outcomes work n) 0

@@ -43,7 +43,7 @@ fn sends_all(w: &Work, o: OutcomeId, n: AtomId) -> bool
 }
 
 /// Whether an alive outcome sends the agent to the atom.
-fn sends(w: &Work, o: OutcomeId, a: AgentId, n: AtomId) -> bool
+pub(crate) fn sends(w: &Work, o: OutcomeId, a: AgentId, n: AtomId) -> bool
     requires alive { IsSome (outcome_at w.now.plain o.0) }
     requires agent { a.0 < w.now.plain.agents }
     ensures { (x : WorkOutcome) → outcome_at w.now.plain o.0 ≡ Some x → result ≡ same_target (sent_to x a.0) (Some n.0) }

@@ -1,6 +1,6 @@
 //! The outcomes of an atom.
-ghost use Rattle.std.specs.Prelude.{◌≡◌, ◌≢◌, ◌∷◌, [], length, slice_get, option_map, IsSome, MatchOption};
-ghost use Rattle.nego_base.specs.Members.{is_in};
+ghost use Rattle.std.specs.Prelude.{◌≡◌, ◌≢◌, ◌==◌, ◌∷◌, [], false, length, slice_get, option_map, IsSome, MatchOption};
+ghost use Rattle.std.specs.Option.{option_map_or};
 ghost use Rattle.nego_expr.specs.Work.{WorkOutcome, IsWork, outcome_at, work_outcomes};
 ghost use Rattle.nego_expr.specs.Use.{outcomes_at};
 
@@ -20,7 +20,7 @@ pub(crate) fn only_of(w: &Work, n: AtomId) -> Option<OutcomeId>
 }
 
 /// The least outcome of the atom, where it has one.
-fn least_of(w: &Work, n: AtomId) -> Option<OutcomeId>
+pub(crate) fn least_of(w: &Work, n: AtomId) -> Option<OutcomeId>
     requires work { IsWork w.now.plain }
     ensures { option_map (λ o. o.0) result ≡ slice_get (work_outcomes w.now.plain n.0) 0 }
 {
@@ -33,9 +33,8 @@ fn least_of(w: &Work, n: AtomId) -> Option<OutcomeId>
 }
 
 /// Whether there is an alive outcome of this number, and it is of the atom.
-fn is_of(w: &Work, o: OutcomeId, n: AtomId) -> bool
-    requires work { IsWork w.now.plain }
-    ensures { result ≡ is_in o.0 (work_outcomes w.now.plain n.0) }
+pub(crate) fn is_of(w: &Work, o: OutcomeId, n: AtomId) -> bool
+    ensures { result ≡ option_map_or (λ z. z.atom == n.0) (outcome_at w.now.plain o.0) false }
 {
     w.alive(o) && w.atom_of(o) == n
 }

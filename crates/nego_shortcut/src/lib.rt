@@ -1,10 +1,15 @@
-//! The closing of a diagram that is down to its first and its last atom.
+//! The shortcut rule, by which an atom becomes part of the outcomes that enter it, and the closing of a diagram that is
+//! down to its first and its last atom.
 #![tactic(auto)]
 
 mod closing;
 mod composing;
+mod entering;
 mod finding;
 mod law;
+mod leading;
+mod through;
 
 pub use closing::{can_close, close};
-pub use law::closing_keeps;
+pub use entering::{can_shortcut, shortcut};
+pub use law::{closing_keeps, shortcuts_keep};
