@@ -126,11 +126,6 @@ pub value_words-more : (values : List ℕ) (value : ℕ) (rest : List ℕ) → v
 value_words-more [] value rest = refl
 value_words-more (first ∷ values) value rest = ap (λ t. codes " " ++ (decimal first ++ t)) (value_words-more values value rest)
 
--- the sizes as the text has them
-pub sizes_read : (agents : List PAgent) → map (λ agent. agent.size) agents ≡ map (λ agent. agent.size) (map agent_content agents)
-sizes_read [] = refl
-sizes_read (agent ∷ agents) = ap (λ sizes. agent.size ∷ sizes) (sizes_read agents)
-
 -- what follows from what holds where all went well
 pub then_ok : {T E : Type 0} (r : Result T E) (P Q : Type 0) → (P → Q) → OnOk r P → OnOk r Q
 then_ok (Ok x) P Q f h = f h

@@ -9,7 +9,7 @@ use Rattle.nego_expr.specs.Work.{WorkOutcome, PlainWork, IsWork, outcome_at}
 use Rattle.nego_expr.specs.Use.{PlainUse, Merge, Iterate, Shortcut, Close, merged_of, outcomes_at, closed_by, most_nodes}
 use Rattle.nego_expr.specs.Keeps.{Keeps}
 use Rattle.nego_expr.specs.Fresh.{fresh_work, Stands}
-use Rattle.nego_expr.proofs.Finished.{finished_works}
+use Rattle.nego_expr.proofs.Finished.{Stands-locally, finished_works}
 use Rattle.nego_expr.proofs.FreshWorks.{fresh_works}
 use Rattle.nego_merge.proofs.MergeKeeps.{merging}
 use Rattle.nego_shortcut.proofs.CloseKeeps.{closing}
@@ -77,7 +77,7 @@ Leads-stands diagram work (next ∷ uses) end h (is_next, few, leads) =
 pub reduced_tells : (diagram : PlainDiagram) (work : PlainWork) (uses : List PlainUse) (summary : PlainSummary) → StillStands work diagram → Reduces work uses summary → Tells summary diagram
 reduced_tells diagram work uses summary stands (end, leads, done, e) =
     let k = Leads-stands diagram work uses end stands leads in
-    subst (λ s. Tells s diagram) (sym e) (finished_works diagram end k.is_work done.one_atom k.stands k.named)
+    subst (λ s. Tells s diagram) (sym e) (finished_works diagram end k.is_work done.one_atom (Stands-locally end diagram k.stands) k.named)
 
 -- the names that the fresh work of a diagram has
 pub fresh_named : (diagram : PlainDiagram) → (fresh_work diagram).names ≡ map (outcome_name diagram) (final_outcomes diagram)

@@ -9,5 +9,4 @@ pub mod Order
 pub mod Refusals
 pub mod Status
 pub mod Texts
-pub mod Uses
 pub mod Words

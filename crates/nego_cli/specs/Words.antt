@@ -1,8 +1,8 @@
 -- The command that words say.
-use Rattle.std.specs.Prelude.{◌≡◌, MatchResult, Result, ℕ, ◌^◌, ◌-◌, Bool, false, not, ◌&&◌, ◌||◌, ◌==◌, ◌<◌, ◌≤◌, ◌↔◌, nat_le, List, [], ◌∷◌, length, Option, Some, None, option_map, option_and_then, if◌then◌else◌, codes, bytes_eq, decimal, slice_index}
-use Rattle.std.specs.Char.{is_ascii_digit}
+use Rattle.std.specs.Prelude.{◌≡◌, MatchResult, Result, ℕ, ◌^◌, ◌-◌, Bool, false, not, ◌&&◌, ◌==◌, ◌<◌, ◌≤◌, ◌↔◌, nat_le, List, [], ◌∷◌, length, Option, Some, None, option_map, option_and_then, if◌then◌else◌, codes, bytes_eq, decimal, slice_index}
 use Rattle.std.specs.List.{list_all}
 use Rattle.std.specs.Str.Parse.{digits_value}
+use Rattle.nego_base.specs.Number.{is_numeral}
 use Rattle.nego_cli.specs.declared.command.Command.{Command}
 use Rattle.nego_cli.specs.declared.command.Command.TheVariants.{Check, Reduce, Replay, Ask, Run, Node, Make}
 use Rattle.nego_cli.specs.declared.command.WordsAnswer.{WordsAnswer}
@@ -17,13 +17,9 @@ is_word bytes =
 abbrev pub are_words : List (List ℕ) → Bool
 are_words words = nat_le 1 (length words) && (nat_le (length words) 19 && list_all is_word words)
 
--- the word is digits, one or more, of which the first is `0` only alone
-abbrev pub is_decimal : List ℕ → Bool
-is_decimal word = nat_le 1 (length word) && (list_all is_ascii_digit word && (length word == 1 || not (slice_index word 0 == 48)))
-
 -- the number that the word spells in decimal, where it spells one of at most `most`
 abbrev pub number_word : ℕ → List ℕ → Option ℕ
-number_word most word = if is_decimal word && nat_le (digits_value 10 word) most then Some (digits_value 10 word) else None
+number_word most word = if is_numeral word && nat_le (digits_value 10 word) most then Some (digits_value 10 word) else None
 
 -- A word gives a number just where it is the number's decimal text and the number isn't above the greatest.
 abbrev pub NumberWordsAreDecimals : Type 0

@@ -31,9 +31,9 @@ pub enum Answer {
 /// What a command that is built does with a diagram.
 #[derive(Clone, Copy, Debug, PartialEq, Eq)]
 pub enum Job {
-    /// It tells its form.
+    /// Tells the diagram's form.
     Check,
-    /// It reduces it.
+    /// Reduces the diagram.
     Reduce,
 }
 
@@ -104,7 +104,8 @@ pub fn find_answer<S: Source>(alloc: Global, words: &[Text], source: &mut S) -> 
     }
 }
 
-/// The answer to the part that the input begins with, where the words ask for the job.
+/// The answer to the part that the input begins with, where the words ask for the job. The words are there for the
+/// contract alone.
 fn answer_input<S: Source>(alloc: Global, words: &[Text], job: Job, source: &mut S) -> Answer
     requires { Asks words.now job }
     ensures found { IsFound words.now (change S.left S.faults source.old source.new) result }

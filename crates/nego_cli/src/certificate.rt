@@ -2,7 +2,7 @@
 
 ghost use Rattle.std.specs.Prelude.{◌≡◌, ◌++◌, codes, decimal, map, IfOk, OnOk};
 ghost use Rattle.nego_expr.specs.SummaryText.{Appends, plain_summary};
-ghost use Rattle.nego_cli.specs.Uses.{plain_use};
+ghost use Rattle.nego_expr.specs.Uses.{plain_use};
 ghost use Rattle.nego_cli.specs.Certificate.{use_line, use_lines, reduction_text};
 
 use nego_base::{Memory, Text};

@@ -7,22 +7,25 @@ use nego_base::Seq;
 use std::alloc::{AllocError, AllocFailed};
 use thiserror::Error;
 
-/// A command with its numbers.
+/// A command with its numbers. `Check` and `Reduce` are built; the others are read as commands, and the program answers
+/// them as words that are no command. Start values are 1 to 16 numbers, each at most 999,999; whether they are as many as
+/// the agents, and below their sizes, only a diagram tells.
 #[derive(Debug, Drop)]
 pub enum Command {
-    /// Whether the diagram is of the form, and which.
+    /// The form of a diagram: its counts, whether it is deterministic, and an order of its atoms or a cycle.
     Check,
-    /// The reduction of the diagram.
+    /// The reduction of a diagram.
     Reduce,
-    /// The replay of a certificate.
+    /// The replay of a certificate on a diagram.
     Replay,
-    /// The answers from a start value of each agent.
+    /// The answers of a diagram from start values, one of each agent.
     Ask(Seq<u32>),
-    /// The run of a schedule from a start value of each agent.
+    /// The run of a schedule from start values, one of each agent.
     Run(Seq<u32>),
-    /// The run of all agents over disks and a link: the seed, the most turns, at most 10,000, and a start value of each agent.
+    /// The run of all agents over disks and a link: the seed, the most turns, at most 10,000, and start values, one of
+    /// each agent.
     Node(u64, u32, Seq<u32>),
-    /// A diagram of this size, from 2 to 64.
+    /// A diagram that is made, with so many atoms, from 2 to 64.
     Make(u32),
 }
 

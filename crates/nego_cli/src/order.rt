@@ -6,7 +6,7 @@ ghost use Rattle.nego_expr.specs.Work.{IsWork};
 ghost use Rattle.nego_expr.specs.Fresh.{fresh_work};
 ghost use Rattle.nego_expr.specs.Use.{can_merge, can_close};
 ghost use Rattle.nego_expr.specs.SummaryText.{plain_summary};
-ghost use Rattle.nego_cli.specs.Uses.{plain_use};
+ghost use Rattle.nego_expr.specs.Uses.{plain_use};
 ghost use Rattle.nego_cli.specs.Narrow.{IsNarrowDiagram};
 ghost use Rattle.nego_cli.specs.NarrowWork.{IsNarrow};
 ghost use Rattle.nego_cli.specs.Order.{IsLeastMerge, HasNoMerge, IsNextUse, Reduces, after_use};
@@ -97,7 +97,7 @@ fn make_use(w: &mut Work, u: Use) -> Result<(), Memory>
     }
 }
 
-/// Makes the uses of a narrow work in their order, until one atom is left and no use is the next one.
+/// Makes the uses of a narrow work in their order, until there is no next one; then one atom is left.
 pub(crate) fn reduce_work(alloc: Global, mut work: Work) -> Result<Reduction, Memory>
     requires work { IsWork work.plain }
     requires narrow { IsNarrow work.plain }

@@ -1,6 +1,6 @@
 //! The line of the refusal of a text whose value has a fault of shape.
 
-ghost use Rattle.std.specs.Prelude.{◌≡◌, ◌++◌, ◌<◌, codes, decimal, length, map, slice_get, Some, None, IfOk, OnOk, IfSome, IfNone};
+ghost use Rattle.std.specs.Prelude.{◌≡◌, ◌++◌, ◌<◌, codes, decimal, Some, None, IfOk, OnOk};
 ghost use Rattle.nego_data.specs.Data.{data_count, split};
 ghost use Rattle.nego_data.specs.Sizes.{AreSizes};
 ghost use Rattle.nego_model.specs.Diagram.{agent_name, atom_name, outcome_name, atom_of};
@@ -9,10 +9,9 @@ ghost use Rattle.nego_shape.specs.Naming.{sizes_in};
 ghost use Rattle.nego_expr.specs.SummaryText.{Appends};
 ghost use Rattle.nego_cli.specs.Refusals.{diagram_of, many_name, outcome_words, choice_words, value_words, shape_words, refusal_line, HasJoint, Misshapen};
 
-use nego_base::{AgentId, Memory, OutcomeId, Seq, Text};
-use nego_data::Sizes;
-use nego_reader::{PAtom, Parsed};
-use nego_shape::{Many, ShapeFault, ShapeKind};
+use nego_base::{AgentId, Memory, OutcomeId, Text};
+use nego_reader::Parsed;
+use nego_shape::{Many, ShapeFault, ShapeKind, sizes_of};
 use std::alloc::Global;
 
 /// The line of the refusal of a text whose value has this fault of shape.
@@ -123,27 +122,7 @@ fn add_number(alloc: Global, text: &mut Text, n: u16) -> Result<(), Memory>
     add_named(text, b" ", digits.as_bytes())
 }
 
-/// The sizes of the agents' data.
-fn sizes_of(alloc: Global, p: &Parsed) -> Result<Sizes, Memory>
-    requires { AreSizes (sizes_in (content_of p.now)) }
-    ensures { IfOk result (λ sizes. sizes ≡ sizes_in (content_of p.now)) }
-{
-    let sizes = numbers_of(alloc, p)?;
-    Ok(Sizes::new(sizes.as_slice()).unwrap())
-}
-
-/// The sizes of the agents' data, as numbers.
-fn numbers_of(alloc: Global, p: &Parsed) -> Result<Seq<u32>, Memory>
-    ensures { IfOk result (λ sizes. sizes ≡ map (λ agent. agent.size) p.now.agents) }
-{
-    let mut sizes = Seq::new(alloc);
-    for agent in p.agents.iter() {
-        sizes.push(agent.size)?;
-    }
-    Ok(sizes)
-}
-
-/// The name of an agent, where there is one of this number.
+/// The name of an agent, and no bytes where there is none of this number.
 fn agent_name(p: &Parsed, a: AgentId) -> &[u8]
     ensures { result.now ≡ agent_name (diagram_of p.now) a.0 }
 {
@@ -153,7 +132,7 @@ fn agent_name(p: &Parsed, a: AgentId) -> &[u8]
     }
 }
 
-/// The name of an atom, where there is one of this number.
+/// The name of an atom, and no bytes where there is none of this number.
 fn atom_name(p: &Parsed, n: usize) -> &[u8]
     ensures { result.now ≡ atom_name (diagram_of p.now) n }
 {
@@ -163,7 +142,7 @@ fn atom_name(p: &Parsed, n: usize) -> &[u8]
     }
 }
 
-/// The number of an outcome's atom and the outcome's name, where there is an outcome of this number.
+/// The number of an outcome's atom and the outcome's name; 0 and no bytes where there is no outcome of this number.
 fn outcome_at(p: &Parsed, o: usize) -> (usize, &[u8])
     ensures atom { result.0 ≡ atom_of (diagram_of p.now) o }
     ensures name { result.1.now ≡ outcome_name (diagram_of p.now) o }

@@ -1,3 +1,5 @@
+//! How a call of the program ends.
+
 ghost use Rattle.std.specs.Prelude.{◌≡◌};
 ghost use Rattle.nego_cli.specs.Status.{status_number};
 
@@ -6,7 +8,7 @@ ghost use Rattle.nego_cli.specs.Status.{status_number};
 pub enum Status {
     /// The answer was put on `out`.
     Done,
-    /// The words are no command.
+    /// The words are no command that is built.
     Words,
     /// The input was refused.
     Refused,

@@ -50,7 +50,7 @@ fn refused(line: Result<Text, Memory>) -> Untold
     }
 }
 
-/// The refusal of a text that isn't read.
+/// The refusal of a text that is off the grammar, or that there is no memory for.
 fn unread(alloc: Global, e: ReadFaults) -> Untold
     ensures { IsUnread e result }
 {
@@ -60,7 +60,7 @@ fn unread(alloc: Global, e: ReadFaults) -> Untold
     }
 }
 
-/// The refusal of a value that has no shape.
+/// The refusal of a value that has a fault of shape, or that there is no memory for.
 fn unshaped(alloc: Global, p: &Parsed, e: &ShapeAnswer) -> Untold
     requires { HasJoint e.now p.now }
     ensures { IsUnshaped p.now e.now result }
@@ -83,7 +83,7 @@ pub(crate) fn told(alloc: Global, job: Job, part: &[u8]) -> Result<Text, Untold>
     }
 }
 
-/// What the value of a text comes to.
+/// What the value of a text comes to. The text is there for the contract alone.
 fn told_of(alloc: Global, job: Job, part: &[u8], parsed: &Parsed) -> Result<Text, Untold>
     requires { Spells part.now parsed.now }
     ensures ok { IfOk result (IsTold job part.now) }
@@ -95,7 +95,7 @@ fn told_of(alloc: Global, job: Job, part: &[u8], parsed: &Parsed) -> Result<Text
     }
 }
 
-/// What a diagram comes to.
+/// What a diagram comes to. The text and its value are there for the contract alone.
 fn told_diagram(
     alloc: Global,
     job: Job,

@@ -49,7 +49,7 @@ const BAD_WORDS: Row = Row {
     ..REDUCED
 };
 
-static ROWS: [Row; 42] = [
+static ROWS: [Row; 44] = [
     REDUCED,
     Row {
         input: b"nego 1\nagent a 2\natom only a\nout set\ncase : a:=1\nfirst only\nlast only\nend\nend\nmore",
@@ -129,6 +129,18 @@ static ROWS: [Row; 42] = [
         input: b"nego 1\nagent a 25\nagent b 41\natom only a b\nout reply\ncase a<3 : a:=b\nfirst only\nlast only\nend\n",
         err: b"refused diagram line 3 JointTooLarge b\n",
         ..REFUSED
+    },
+    Row {
+        words: &[b"check"],
+        input: b"nego 1\nagent a0 1\nagent a1 1\nagent a2 1\nagent a3 1\nagent a4 1\nagent a5 1\nagent a6 1\nagent a7 1\nagent a8 1\nagent a9 1\nagent a10 1\nagent a11 1\nagent a12 1\nagent a13 1\nagent a14 1\nagent a15 1\nagent a16 1\nfirst x\nlast x\nend\n",
+        err: b"refused diagram line 18 TooMany agents\n",
+        ..REFUSED
+    },
+    Row {
+        words: &[b"check"],
+        input: b"nego 1\nagent buyer 4\nagent seller 4\nagent bank 2\nagent carrier 2\n# prices are settled first\natom open buyer seller bank carrier\nout go\ncase :\nnext talk buyer seller\nnext deal bank carrier\natom talk buyer seller\nout counter\ncase : buyer:=buyer+1\nnext talk buyer seller\nout agree\ncase buyer>=seller :\ncase buyer<seller : buyer:=seller\nnext deal buyer seller\nout walk\ncase : buyer:=0\nnext deal buyer seller\natom deal buyer seller bank carrier\nout proceed\ncase :\nnext pay buyer bank\nnext ship seller carrier\nout drop\ncase :\nnext close buyer seller bank carrier\natom pay buyer bank\nout paid\ncase : bank:=1\nnext close buyer bank\natom ship seller carrier\nout sent\ncase : carrier:=1\nnext close seller carrier\natom close buyer seller bank carrier\nout delivered\ncase :\nout cancelled\ncase : bank:=0 carrier:=0\nfirst open\nlast close\nend\n",
+        out: b"agents 4\natoms 6\noutcomes 10\njoint 64\ndeterministic\ncyclic talk\n",
+        ..REDUCED
     },
     Row {
         input: b"nego 1\nagent a 2\nagent b 2\nagent c 2\natom fork a b c\nout go\ncase :\nnext ab a b\nnext cc c\natom ab a b\nout x\ncase : a:=b b:=a\nnext join a b\natom cc c\nout y\ncase : c:=1\nnext join c\natom join a b c\nout ok\ncase :\nfirst fork\nlast join\nend\n",

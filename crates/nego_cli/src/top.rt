@@ -35,8 +35,8 @@ pub fn nego<S: Source, O: Sink, E: Sink>(
         ¬ Failed (change S.left S.faults source.old source.new) → ¬ Failed (change O.taken O.faults out.old out.new) → ¬ Failed (change E.taken E.faults err.old err.new) →
         ((result ≡ Status.Done) × ((text : List ℕ) × IsTextOf reply text × Put text (change O.taken O.faults out.old out.new))) ⊎ (result ≡ Status.Memory)) }
 
-    // What has no part in the answer stays as it is, whether it tells or not: the source where the words are no command,
-    // `out` where no text is put there, and `err` where the text is on `out`.
+    // What has no part in the answer stays as it is, whether it tells or not: the source where the words are no command
+    // that is built, `out` where no text is put there, and `err` where the text is on `out`.
     ensures source_untouched { job_asked words.now ≡ None → source.new ≡ source.old }
     ensures out_untouched { (result ≡ Status.Done)
         ⊎ (((result ≡ Status.WriteFault) × Failed (change O.taken O.faults out.old out.new)) ⊎ (out.new ≡ out.old)) }

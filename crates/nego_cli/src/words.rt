@@ -1,16 +1,15 @@
 //! Reads the words of a call as a command.
 
-ghost use Rattle.std.specs.Prelude.{◌≡◌, ◌&&◌, IfOk, IfErr, Err, Some, None, map, nat_le, option_map, if◌then◌else◌, false, true};
-ghost use Rattle.std.specs.Char.{is_ascii_digit};
+ghost use Rattle.std.specs.Prelude.{◌≡◌, ◌&&◌, IfOk, Err, Some, None, map, nat_le, option_map, if◌then◌else◌, false, true};
 ghost use Rattle.std.specs.List.{list_all};
 ghost use Rattle.clap.specs.Words.{subcommand_rows_of};
 ghost use Rattle.nego_cli.specs.CommandLine.{command_split};
-ghost use Rattle.nego_cli.specs.Words.{Gives, are_words, command_of, command_with, is_decimal, is_word, make_words, node_words, number_word, size_word, start_words};
+ghost use Rattle.nego_cli.specs.Words.{Gives, are_words, command_of, command_with, is_word, make_words, node_words, number_word, size_word, start_words};
 
 use crate::splitting::split;
 use crate::{Command, WordsAnswer};
 use clap::ArgMatches;
-use nego_base::{Seq, Text};
+use nego_base::{Seq, Text, is_numeral};
 use std::alloc::Global;
 
 /// How many words a call has at most.
@@ -72,32 +71,18 @@ fn texts_of<'a>(alloc: Global, words: &'a [Text]) -> Result<Vec<&'a str>, WordsA
     Ok(texts)
 }
 
-/// Whether each byte is a digit.
-fn are_digits(bytes: &[u8]) -> bool
-    ensures { result ≡ list_all is_ascii_digit bytes.now }
-{
-    bytes.iter().all(|b| b.is_ascii_digit())
-}
-
-/// Whether the bytes are digits, one or more, of which the first is `0` only alone.
-fn is_decimal(bytes: &[u8]) -> bool
-    ensures { result ≡ is_decimal bytes.now }
-{
-    !bytes.is_empty() && are_digits(bytes) && (bytes.len() == 1 || !bytes.starts_with(b"0"))
-}
-
 /// The number that the word spells, where it is at most `most`.
 fn number(word: &str, most: u64) -> Option<u64>
     ensures { result ≡ number_word most word.now }
 {
-    if !is_decimal(word.as_bytes()) {
+    if !is_numeral(word.as_bytes()) {
         return None;
     }
     let n = word.parse::<u64>().ok()?;
     if n <= most { Some(n) } else { None }
 }
 
-/// The number that the word spells, where it is at most `most`, of 32 bits.
+/// The number that the word spells, where it is at most `most`, in 32 bits.
 fn small_number(word: &str, most: u32) -> Option<u32>
     ensures { result ≡ number_word most word.now }
 {

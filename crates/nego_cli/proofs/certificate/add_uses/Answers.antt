@@ -4,7 +4,7 @@ use Rattle.nego_expr.specs.SummaryText.{Appends}
 use Rattle.nego_expr.proofs.Printing.{appends_then}
 use Rattle.nego_expr.proofs.Seen.{map-take_more}
 use Rattle.nego_cli.specs.Certificate.{use_line, use_lines}
-use Rattle.nego_cli.specs.Uses.{plain_use}
+use Rattle.nego_expr.specs.Uses.{plain_use}
 use Rattle.nego_cli.proofs.CertificateLines.{use_lines-more}
 use Rattle.nego_cli.proofs.certificate.add_uses.Goals as goal
 

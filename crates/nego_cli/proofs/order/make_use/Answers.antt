@@ -1,7 +1,7 @@
 use Rattle.std.proofs.Common.{◌+◌, length, IsTrue, subst}
 use Rattle.nego_expr.specs.Use.{can_merge, can_close, outcomes_at}
 use Rattle.nego_cli.specs.Order.{IsLeastMerge, HasNoMerge, IsNextUse}
-use Rattle.nego_cli.specs.Uses.{plain_use}
+use Rattle.nego_expr.specs.Uses.{plain_use}
 use Rattle.nego_cli.proofs.NarrowUses.{merge_has_room, close_has_room}
 use Rattle.nego_cli.proofs.OnlyMemory.{fits_so}
 use Rattle.nego_cli.proofs.order.make_use.Goals as goal

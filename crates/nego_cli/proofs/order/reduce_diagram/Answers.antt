@@ -10,7 +10,7 @@ use Rattle.nego_expr.specs.SummaryText.{plain_summary}
 use Rattle.nego_cli.specs.declared.order.Reduction.{Reduction}
 use Rattle.nego_cli.specs.NarrowWork.{IsNarrow}
 use Rattle.nego_cli.specs.Order.{Reduces}
-use Rattle.nego_cli.specs.Uses.{plain_use}
+use Rattle.nego_expr.specs.Uses.{plain_use}
 use Rattle.nego_cli.proofs.NarrowFresh.{narrow_fresh, narrow_determined}
 use Rattle.nego_cli.proofs.UsesLead.{StillStands, fresh_named, reduced_tells}
 use Rattle.nego_cli.proofs.order.reduce_diagram.Goals as goal

@@ -3,7 +3,7 @@ use Rattle.std.proofs.lemmas.List.{map-append}
 use Rattle.nego_expr.specs.Work.{IsWork}
 use Rattle.nego_cli.specs.NarrowWork.{IsNarrow}
 use Rattle.nego_cli.specs.Order.{IsNextUse, Leads, IsDone, after_use}
-use Rattle.nego_cli.specs.Uses.{plain_use}
+use Rattle.nego_expr.specs.Uses.{plain_use}
 use Rattle.nego_cli.proofs.NarrowWorks.{nothing_allowed_done}
 use Rattle.nego_cli.proofs.NarrowUses.{LeavesLess, left_to_do, next_leaves}
 use Rattle.nego_cli.proofs.UsesLead.{Leads-more, next_keeps}

@@ -2,7 +2,7 @@ use Rattle.std.proofs.Common.{map}
 use Rattle.nego_expr.specs.Work.{IsWork}
 use Rattle.nego_cli.specs.NarrowWork.{IsNarrow}
 use Rattle.nego_cli.specs.Order.{Leads}
-use Rattle.nego_cli.specs.Uses.{plain_use}
+use Rattle.nego_expr.specs.Uses.{plain_use}
 use Rattle.nego_cli.proofs.NarrowUses.{left_to_do}
 use Rattle.nego_cli.proofs.order.reduce_work.Given as goal
 
