@@ -29,7 +29,7 @@ pub enum SizeFault {
 
 /// The sizes of the agents' data: how many values each agent may have, which are the numbers below its size.
 /// Contracts see the list of the sizes.
-#[derive(Clone, Copy, Debug)]
+#[derive(Clone, Copy, Debug, PartialEq, Eq)]
 pub struct Sizes {
     count: u32,
     sizes: [u16; 16],

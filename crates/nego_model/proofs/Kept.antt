@@ -1,8 +1,8 @@
 -- Markings as they are kept: an array of sets, of which those of the agents are read.
-use Rattle.std.proofs.Common.{◌≡◌, ℕ, ◌-◌, ◌<◌, ◌≤◌, ◌&&◌, true, false, cond, ltb, List, [], length, slice_index_or, take, replicate, IsTrue, sym, subst, ap, ◌∙◌, arith}
+use Rattle.std.proofs.Common.{◌≡◌, ℕ, ◌+◌, ◌-◌, ◌<◌, ◌≤◌, ◌&&◌, true, false, cond, ltb, List, [], length, slice_index_or, take, drop, replicate, IsTrue, sym, subst, ap, ◌∙◌, arith}
 use Rattle.std.proofs.lemmas.Bool.{false_from_ne_true}
 use Rattle.std.proofs.lemmas.Bool.Decides.{nat_tests}
-use Rattle.std.proofs.lemmas.List.{get_or-take, length-take-le, take-replicate}
+use Rattle.std.proofs.lemmas.List.{ext_get_or, get_or-take, get_or-drop, length-drop, length-take-le, take-replicate}
 use Rattle.std.specs.List.{list_all, range_with_len}
 use Rattle.nego_base.specs.Members.{is_in}
 use Rattle.nego_model.specs.declared.marking.Marking.{Marking}
@@ -76,3 +76,10 @@ moved_kept diagram old new parties next long long' h =
     let below_old : a < length (marking_in diagram old) = subst (λ n. a < n) (sym (length-kept diagram old long)) below in
     ready-kept diagram new a below ∙ (h a below
     ∙ sym (ready-moved parties next (marking_in diagram old) a below_old ∙ ap (λ here. cond (is_in a parties) (next a) here) (ready-kept diagram old a below))))
+
+-- what stands past the agents is as before
+pub rest_kept : (n : ℕ) (old new : List (List ℕ)) → length new ≡ length old → ((a : ℕ) → n ≤ a → slice_index_or new a [] ≡ slice_index_or old a []) →
+    drop n new ≡ drop n old
+rest_kept n old new long same =
+    ext_get_or [] (drop n new) (drop n old) (length-drop n new ∙ (ap (λ k. k - n) long ∙ sym (length-drop n old)))
+    (λ a below. get_or-drop n new a [] ∙ (same (n + a) (omega arith) ∙ sym (get_or-drop n old a [])))

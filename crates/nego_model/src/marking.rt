@@ -1,4 +1,4 @@
-ghost use Rattle.std.specs.Prelude.{◌≡◌, ◌↔◌, ◌<◌, Some, None, if◌then◌else◌, length, IsTrue};
+ghost use Rattle.std.specs.Prelude.{◌≡◌, ◌↔◌, ◌<◌, [], ◌∷◌, Some, None, if◌then◌else◌, length, drop, replicate, IsTrue};
 ghost use Rattle.std.specs.List.{list_all};
 ghost use Rattle.nego_base.specs.Members.{is_in};
 ghost use Rattle.nego_model.specs.Occurring.{opening_marking, final_marking, ready, enables, moved, after};
@@ -10,7 +10,7 @@ use nego_base::{AgentId, AtomId, AtomSet, OutcomeId};
 
 /// A marking: for each agent the atoms that it is ready for. What stands past a diagram's agents is not read. Nothing
 /// here takes memory.
-#[derive(Clone, Copy, Debug)]
+#[derive(Clone, Copy, Debug, PartialEq, Eq)]
 pub struct Marking {
     pub ready: [AtomSet; 16],
 }
@@ -18,7 +18,8 @@ pub struct Marking {
 impl Marking {
     /// Everyone is ready for the first atom alone.
     pub fn opening(d: &Diagram) -> Marking
-        ensures { marking_in d.now result ≡ opening_marking (negotiation_of d.now) }
+        ensures value { marking_in d.now result ≡ opening_marking (negotiation_of d.now) }
+        ensures entries { result.ready ≡ replicate 16 (d.now.first ∷ []) }
     {
         let first = AtomSet::none().with(d.first());
         Marking { ready: [first; 16] }
@@ -32,10 +33,11 @@ impl Marking {
     }
 
     /// Lets the atom occur with the outcome. False where it isn't enabled or the outcome isn't its own; then nothing
-    /// changes.
+    /// changes. What stands past the diagram's agents never does.
     pub fn fire(&mut self, d: &Diagram, n: AtomId, o: OutcomeId) -> bool
         ensures value { after (negotiation_of d.now) (marking_in d.now self.old) (n.0, o.0) ≡ (if result then Some (marking_in d.now self.new) else None) }
         ensures refused { ¬ IsTrue result → self.new ≡ self.old }
+        ensures rest { drop (length d.now.agents) self.new.ready ≡ drop (length d.now.agents) self.old.ready }
     {
         if !self.enabled(d, n) || !is_own(d, n, o) {
             return false;
@@ -74,7 +76,8 @@ impl Marking {
     fn move_parties(&mut self, d: &Diagram, n: AtomId, o: OutcomeId)
         requires atom { n.0 < length d.now.atoms }
         requires outcome { o.0 < length d.now.outcomes }
-        ensures { marking_in d.now self.new ≡ moved 0 (parties_of d.now n.0) (nexts_of d.now o.0) (marking_in d.now self.old) }
+        ensures value { marking_in d.now self.new ≡ moved 0 (parties_of d.now n.0) (nexts_of d.now o.0) (marking_in d.now self.old) }
+        ensures rest { drop (length d.now.agents) self.new.ready ≡ drop (length d.now.agents) self.old.ready }
     {
         let parties = d.parties(n);
         for a in 0..d.agents() {

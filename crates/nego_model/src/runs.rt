@@ -7,7 +7,7 @@ use nego_base::{AtomId, OutcomeId, Seq};
 pub type Run = Seq<(AtomId, OutcomeId)>;
 
 /// How far occurrences go from the opening marking.
-#[derive(Clone, Copy, Debug)]
+#[derive(Clone, Copy, Debug, PartialEq, Eq)]
 pub enum Follow {
     /// All occur, and leave the final marking.
     Complete,
