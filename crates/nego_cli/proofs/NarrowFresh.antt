@@ -12,7 +12,7 @@ use Rattle.nego_expr.specs.Work.{sent_to}
 use Rattle.nego_expr.specs.Fresh.{atoms_from, outcomes_of, fresh_work}
 use Rattle.nego_expr.proofs.FreshLists.{fresh_outcome, All-outcomes_of}
 use Rattle.nego_expr.proofs.FreshWorks.{diagram_outcome}
-use Rattle.nego_expr.proofs.Undetermined.{determined}
+use Rattle.nego_model.proofs.Undetermined.{determined}
 use Rattle.nego_cli.specs.Narrow.{IsNarrowDiagram}
 use Rattle.nego_cli.specs.NarrowWork.{IsNarrow}
 

@@ -13,7 +13,6 @@ pub mod Printing
 pub mod Seen
 pub mod FreshSteps
 pub mod FreshBuilt
-pub mod Undetermined
 pub mod Finishing
 pub mod UsableWorks
 pub mod LocalWorks

@@ -1,10 +1,9 @@
 //! The work that a deterministic diagram begins as.
-ghost use Rattle.std.specs.Prelude.{◌≡◌, ℕ, ◌<◌, ◌≤◌, length, map, slice_get, IfSome, IfNone, IfOk, OnOk, IfErr};
+ghost use Rattle.std.specs.Prelude.{◌≡◌, ◌<◌, ◌≤◌, length, map, slice_get, IfOk, OnOk, IfErr};
 ghost use Rattle.std.specs.List.{range_with_len};
 ghost use Rattle.nego_model.specs.Negotiation.{IsDeterministic};
 ghost use Rattle.nego_model.specs.Expression.{Base};
 ghost use Rattle.nego_model.specs.Diagram.{IsDiagram, negotiation_of, parties_of, nexts_of, outcome_name};
-ghost use Rattle.nego_model.specs.Undetermined.{IsFirstUndetermined};
 ghost use Rattle.nego_model.specs.Limits.{IsWithinLimits};
 ghost use Rattle.nego_model.specs.Summary.{final_outcomes};
 ghost use Rattle.nego_expr.specs.Work.{IsWork};
@@ -34,43 +33,11 @@ impl Work {
         // `NotDeterministic` comes exactly where the diagram isn't, with the least pair.
         ensures err { IfErr result (λ e. WorkFaultHolds d.now e) }
     {
-        if let Some((o, a)) = first_undetermined(d) {
+        if let Some((o, a)) = d.first_undetermined() {
             return Err(WorkFault::NotDeterministic(o, a));
         }
         Ok(build(alloc, d)?)
     }
-}
-
-/// The least outcome, and the least agent after it, with two next atoms or more.
-fn first_undetermined(d: &Diagram) -> Option<(OutcomeId, AgentId)>
-    ensures some { IfSome result (λ pair. IsFirstUndetermined d.now pair.0.0 pair.1.0) }
-    ensures none { IfNone result (IsDeterministic (negotiation_of d.now)) }
-    ensures diagram { IsDiagram d.now }
-{
-    for o in 0..d.outcomes() {
-        let o = OutcomeId(o);
-        if let Some(a) = undetermined_after(d, o) {
-            return Some((o, a));
-        }
-    }
-    None
-}
-
-/// The least agent with two next atoms or more after the outcome.
-fn undetermined_after(d: &Diagram, o: OutcomeId) -> Option<AgentId>
-    requires { o.0 < length d.now.outcomes }
-    ensures agent { IfSome result (λ a. a.0 < length d.now.agents) }
-    ensures two { IfSome result (λ a. 1 < length (nexts_of d.now o.0 a.0)) }
-    ensures least { IfSome result (λ a. (b : ℕ) → b < a.0 → length (nexts_of d.now o.0 b) ≤ 1) }
-    ensures none { IfNone result ((b : ℕ) → b < length d.now.agents → length (nexts_of d.now o.0 b) ≤ 1) }
-{
-    for a in 0..d.agents() {
-        let a = AgentId(a);
-        if d.nexts(o, a).count() > 1 {
-            return Some(a);
-        }
-    }
-    None
 }
 
 /// The fresh work.

@@ -17,6 +17,7 @@ pub mod Diagrams
 pub mod OneAtom
 pub mod OneCase
 pub mod Readers
+pub mod Undetermined
 pub mod Making
 pub mod Kept
 pub mod Followed

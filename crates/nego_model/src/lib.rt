@@ -1,6 +1,7 @@
 //! What a deterministic negotiation is and does: diagrams, markings, runs, soundness, joined data, expressions.
 #![tactic(auto)]
 
+mod determinism;
 mod diagram;
 mod following;
 pub mod laws;

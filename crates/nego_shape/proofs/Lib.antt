@@ -5,7 +5,6 @@ mod OneCycle
 mod OneOrder
 mod PlacedAtoms
 mod Turning
-pub mod Undetermined
 mod Walking
 pub mod BrokenLaws
 pub mod FirstLaws
