@@ -68,6 +68,12 @@ NeighboursKeepJoinedData = (nego : Negotiation) (sizes : List ℕ) (test : Relat
     AreApart (nego.parties step.0) (nego.parties step'.0) → d < data_count sizes → leaves nego marking (front ++ step ∷ step' ∷ rest) ≡ Some left →
     Joins (By test) (front ++ step ∷ step' ∷ rest) d e → Joins (By test) (front ++ step' ∷ step ∷ rest) d e
 
+-- The same where the outcomes' relations are the meanings of expressions.
+abbrev pub NeighboursKeepWhatExpressionsJoin : Type 0
+NeighboursKeepWhatExpressionsJoin = (nego : Negotiation) (sizes : List ℕ) (test : RelationTest) (nodes : List PlainNode) (node_of : ℕ → ℕ) (marking left : PlainMarking) (front rest : List Occurrence) (step step' : Occurrence) (d e : ℕ) →
+    IsLocal nego sizes (ByNodes test nodes node_of) → AreApart (nego.parties step.0) (nego.parties step'.0) → d < data_count sizes → leaves nego marking (front ++ step ∷ step' ∷ rest) ≡ Some left →
+    Joins (ByNodes test nodes node_of) (front ++ step ∷ step' ∷ rest) d e → Joins (ByNodes test nodes node_of) (front ++ step' ∷ step ∷ rest) d e
+
 -- Then each agent sees the same.
 abbrev pub NeighboursKeepProjections : Type 0
 NeighboursKeepProjections = (nego : Negotiation) (front rest : List Occurrence) (step step' : Occurrence) (a : ℕ) → AreApart (nego.parties step.0) (nego.parties step'.0) →

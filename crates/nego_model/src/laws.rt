@@ -1,6 +1,6 @@
 //! Laws over the definitions. Each function does nothing; its clause is the law.
 
-ghost use Rattle.nego_model.specs.Laws.{CompleteRunsEndWithTheLastAtom, JoinsThroughBetween, ExpressionsJoinThroughBetween, OlderNodesKeepTheirMeaning, CompleteRunsPassEveryoneAtTheLastAtom, CompleteRunsOfExpressionsPassEveryoneAtTheLastAtom, StepsApartCommute, StepsApartJoinTheSame, ExpressionsApartJoinTheSame, NeighboursChangePlaces, NeighboursKeepJoinedData, NeighboursKeepProjections, ReadinessFollowsFromTheProjection, SameProjectionsLeaveTheSame};
+ghost use Rattle.nego_model.specs.Laws.{CompleteRunsEndWithTheLastAtom, JoinsThroughBetween, ExpressionsJoinThroughBetween, OlderNodesKeepTheirMeaning, CompleteRunsPassEveryoneAtTheLastAtom, CompleteRunsOfExpressionsPassEveryoneAtTheLastAtom, StepsApartCommute, StepsApartJoinTheSame, ExpressionsApartJoinTheSame, NeighboursChangePlaces, NeighboursKeepJoinedData, NeighboursKeepWhatExpressionsJoin, NeighboursKeepProjections, ReadinessFollowsFromTheProjection, SameProjectionsLeaveTheSame};
 
 /// A complete run isn't empty, and its last entry is of the last atom.
 pub fn complete_runs_end_with_the_last_atom()
@@ -36,7 +36,8 @@ pub fn steps_apart_commute()
 /// are joined, and each agent sees the same.
 pub fn neighbours_apart_change_places()
     ensures marking { NeighboursChangePlaces }
-    ensures joined { NeighboursKeepJoinedData }
+    ensures outcomes { NeighboursKeepJoinedData }
+    ensures expressions { NeighboursKeepWhatExpressionsJoin }
     ensures projections { NeighboursKeepProjections }
 {}
 
