@@ -6,10 +6,13 @@ ghost use Rattle.nego_data.specs.BitRows.{is_set, is_moved, word_below};
 /// The bits of a word.
 pub(crate) const WORD_BITS: usize = 64;
 
+/// The words that have a bit for each of the most joint data, 1,024.
+const MOST_WORDS: usize = 16;
+
 /// A set of joint data as a row of bits: bit `e % 64` of word `e / 64` tells whether e is in it.
 #[derive(Clone, Copy, Debug)]
 pub(crate) struct BitRow {
-    words: [u64; 16],
+    words: [u64; MOST_WORDS],
 }
 
 impl BitRow {
@@ -17,7 +20,9 @@ impl BitRow {
     pub(crate) fn none() -> BitRow
         ensures { (e : ℕ) → is_set result.words e ≡ false }
     {
-        BitRow { words: [0; 16] }
+        BitRow {
+            words: [0; MOST_WORDS],
+        }
     }
 
     /// Puts e into the set.
@@ -47,6 +52,7 @@ impl BitRow {
         let bits = by % WORD_BITS;
         let high = self.word_below(place, by / WORD_BITS);
         let low = self.word_below(place, by / WORD_BITS + 1);
+        // Shifted twice, since at no bits the one shift would be by a whole word.
         (high << bits) | (low >> 1 >> (WORD_BITS - 1 - bits))
     }
 

@@ -5,15 +5,20 @@ use nego_base::{AgentId, Op, Seq};
 /// The right side of a comparison: a number, or an agent's value.
 #[derive(Clone, Copy, Debug, PartialEq, Eq)]
 pub enum Operand {
+    /// This number.
     Number(u32),
+    /// The agent's value.
     Value(AgentId),
 }
 
 /// A comparison of an agent's value.
 #[derive(Clone, Copy, Debug, PartialEq, Eq)]
 pub struct Test {
+    /// The agent whose value stands on the left.
     pub agent: AgentId,
+    /// How the two sides are compared.
     pub op: Op,
+    /// What stands on the right.
     pub right: Operand,
 }
 
@@ -21,16 +26,23 @@ pub struct Test {
 /// the range of the agent that is assigned.
 #[derive(Clone, Copy, Debug, PartialEq, Eq)]
 pub enum Term {
+    /// Any value in the range of the agent that is assigned.
     Any,
+    /// This number.
     Number(u32),
+    /// The agent's value before plus the number, or the greatest in range where that is less.
     Plus(AgentId, u32),
+    /// The agent's value before minus the number, or 0 where that is below 0, or the greatest in range where that is
+    /// less.
     Minus(AgentId, u32),
 }
 
 /// An assignment to an agent.
 #[derive(Clone, Copy, Debug, PartialEq, Eq)]
 pub struct Set {
+    /// The agent that is assigned.
     pub agent: AgentId,
+    /// What it is assigned.
     pub term: Term,
 }
 
@@ -38,6 +50,8 @@ pub struct Set {
 /// assigns their terms' values.
 #[derive(Debug, Drop)]
 pub struct Case {
+    /// The comparisons, which are all to hold.
     pub tests: Seq<Test>,
+    /// The assignments, which are all made at once.
     pub sets: Seq<Set>,
 }

@@ -1,5 +1,5 @@
 //! Which joint data a case covers.
-ghost use Rattle.std.specs.Prelude.{◌≡◌, ◌<◌, length, not, find, All};
+ghost use Rattle.std.specs.Prelude.{◌≡◌, not, find, All};
 ghost use Rattle.std.specs.List.{list_any, range_with_len};
 ghost use Rattle.nego_data.specs.Data.{data_count};
 ghost use Rattle.nego_data.specs.Sizes.{tuple_of};

@@ -1,5 +1,5 @@
 //! The joint data of the agents: a value for each, numbered so that the first agent is the most significant.
-ghost use Rattle.std.specs.Prelude.{◌≡◌, ◌+◌, ◌-◌, ◌*◌, ◌<◌, ◌≤◌, ◌++◌, ◌==◌, nat_lt, length, take, replicate, slice_index, position, IfOk, IfErr, All};
+ghost use Rattle.std.specs.Prelude.{◌≡◌, ◌-◌, ◌<◌, ◌≤◌, ◌++◌, ◌==◌, nat_lt, length, replicate, slice_index, position, IfOk, IfErr, All};
 ghost use Rattle.nego_data.specs.Data.{data_count, joint};
 ghost use Rattle.nego_data.specs.Sizes.{AreSizes, HasFault, AreBelow, tuple_of};
 
@@ -37,7 +37,7 @@ pub struct Sizes {
 }
 
 impl Model for Sizes {
-    ghost use Rattle.std.specs.Prelude.{ℕ, ◌-◌, List, ◌++◌, length, take, replicate};
+    ghost use Rattle.std.specs.Prelude.{ℕ, ◌-◌, List, ◌++◌, length, replicate};
     ghost use Rattle.nego_data.specs.Data.{data_count};
 
     ghost Value = { List ℕ };

@@ -1,7 +1,6 @@
 //! The table of an outcome's cases.
 ghost use Rattle.std.specs.Prelude.{◌≡◌, ◌≢◌, ℕ, ◌<◌, ◌||◌, [], ◌∷◌, length, All, IsTrue, IfOk, IfErr};
 ghost use Rattle.nego_data.specs.Data.{data_count};
-ghost use Rattle.nego_data.specs.Sizes.{AreSizes};
 ghost use Rattle.nego_data.specs.Tables.{IsTable, is_related};
 ghost use Rattle.nego_data.specs.Cases.{relates, rows_of};
 ghost use Rattle.nego_data.specs.CaseForm.{NamesOnly, AssignsOnce, AssignsBelow, IsNamedBelow, AllCovered, HasTableFault};

@@ -1,5 +1,5 @@
 //! Tables of joint data, kept as rows of bits.
-ghost use Rattle.std.specs.Prelude.{◌≡◌, ℕ, ◌+◌, ◌*◌, ◌/◌, ◌%◌, ◌<◌, ◌≤◌, ◌-◌, ◌&&◌, ◌||◌, ◌==◌, [], length, replicate, slice_get, slice_index_or, IfOk};
+ghost use Rattle.std.specs.Prelude.{◌≡◌, ℕ, ◌<◌, ◌≤◌, ◌&&◌, ◌||◌, ◌==◌, [], length, replicate, slice_get, slice_index_or, IfOk};
 ghost use Rattle.nego_base.specs.Members.{is_in};
 ghost use Rattle.nego_data.specs.BitRows.{is_moved};
 ghost use Rattle.nego_data.specs.Tables.{IsTable, is_related, row_words, word_place};
@@ -13,7 +13,7 @@ use std::marker::Model;
 /// that gives for each joint data the rising list of those to which it is related.
 #[derive(Debug, Drop)]
 pub struct Table {
-    count: u16,
+    all: u16,
     words: Vec<u64>,
 }
 
@@ -23,19 +23,19 @@ impl Model for Table {
 
     ghost Value = { List (List ℕ) };
 
-    ghost view = { λ t. rows_of_words t.count t.words.items };
+    ghost view = { λ t. rows_of_words t.all t.words.items };
 
-    ghost invariant = { λ t. IsPacked t.count t.words.items };
+    ghost invariant = { λ t. IsPacked t.all t.words.items };
 }
 
 impl Table {
     /// The table of so many joint data of which none are related.
-    pub(crate) fn empty(alloc: Global, count: u16) -> Result<Table, Memory>
-        requires { count ≤ 1024 }
-        ensures { IfOk result (λ table. table ≡ replicate count []) }
+    pub(crate) fn empty(alloc: Global, all: u16) -> Result<Table, Memory>
+        requires { all ≤ 1024 }
+        ensures { IfOk result (λ table. table ≡ replicate all []) }
     {
-        let words = vec![in alloc; 0; count as usize * row_words(count)]?;
-        Ok(Table { count, words })
+        let words = vec![in alloc; 0; all as usize * row_words(all)]?;
+        Ok(Table { all, words })
     }
 
     /// Relates d to the joint data that are above the least by an offset.
@@ -45,7 +45,7 @@ impl Table {
         ensures related { (c e : ℕ) → c < length self.old → e < length self.old →
             is_related self.new c e ≡ (is_related self.old c e || (c == d && is_moved offsets.now.words least e)) }
     {
-        let words = row_words(self.count);
+        let words = row_words(self.all);
         let start = d as usize * words;
         offsets.add_moved(least, &mut self.words[start..start + words]);
     }
@@ -57,7 +57,7 @@ impl Table {
         ensures value { result ≡ is_in e (slice_index_or self.now d []) }
         ensures table { IsTable (length self.now) self.now }
     {
-        let word = self.words[word_place(self.count, d, e)];
+        let word = self.words[word_place(self.all, d, e)];
         word >> (e as usize % WORD_BITS) & 1 == 1
     }
 
@@ -66,10 +66,10 @@ impl Table {
         ensures value { result ≡ length self.now }
         ensures table { IsTable (length self.now) self.now }
     {
-        self.count
+        self.all
     }
 
-    /// To how many joint data d is related. It is below the number of joint data.
+    /// To how many joint data d is related. d is below the number of joint data.
     pub fn count(&self, d: u16) -> u16
         requires { d < length self.now }
         ensures value { result ≡ length (slice_index_or self.now d []) }
@@ -80,7 +80,7 @@ impl Table {
     }
 
     /// The k-th of the joint data to which d is related, in rising order and from 0; `None` where they are no more than
-    /// k. It is below the number of joint data.
+    /// k. d is below the number of joint data.
     pub fn nth(&self, d: u16, k: u16) -> Option<u16>
         requires { d < length self.now }
         ensures value { result ≡ slice_get (slice_index_or self.now d []) k }
@@ -93,15 +93,15 @@ impl Table {
 }
 
 /// How many words have a bit for each of so many joint data.
-fn row_words(count: u16) -> usize
-    ensures { result ≡ row_words count }
+fn row_words(all: u16) -> usize
+    ensures { result ≡ row_words all }
 {
-    (count as usize).div_ceil(WORD_BITS)
+    (all as usize).div_ceil(WORD_BITS)
 }
 
 /// In which word the bit for d and e stands.
-fn word_place(count: u16, d: u16, e: u16) -> usize
-    ensures { result ≡ word_place count d e }
+fn word_place(all: u16, d: u16, e: u16) -> usize
+    ensures { result ≡ word_place all d e }
 {
-    d as usize * row_words(count) + e as usize / WORD_BITS
+    d as usize * row_words(all) + e as usize / WORD_BITS
 }

@@ -67,27 +67,111 @@ fn has(table: &Table, all: u16, pairs: &[(u16, u16)]) -> bool
     true
 }
 
-/// What is expected of the row of d: how many it has, the k-th of them, and whether e is one. In this order they are
-/// d, the count, k, the k-th, e, and whether e is one.
-type Expected = (u16, u16, u16, Option<u16>, u16, bool);
+/// What is expected of the row of d: how many it has, the k-th of them, and whether e is one.
+#[derive(Clone, Copy)]
+struct ExpectedRow {
+    d: u16,
+    count: u16,
+    k: u16,
+    nth: Option<u16>,
+    e: u16,
+    related: bool,
+}
 
 /// What is expected of the three cases below over sizes 64 and 16.
-const FULL: [Expected; 6] = [
-    (37, 64, 40, Some(654), 655, false),
-    (45, 79, 47, Some(527), 512, true),
-    (45, 79, 79, None, 1023, true),
-    (49, 1, 0, Some(48), 49, false),
-    (814, 17, 1, Some(1008), 815, true),
-    (1008, 1, 0, Some(1023), 1022, false),
+const FULL: [ExpectedRow; 6] = [
+    ExpectedRow {
+        d: 37,
+        count: 64,
+        k: 40,
+        nth: Some(654),
+        e: 655,
+        related: false,
+    },
+    ExpectedRow {
+        d: 45,
+        count: 79,
+        k: 47,
+        nth: Some(527),
+        e: 512,
+        related: true,
+    },
+    ExpectedRow {
+        d: 45,
+        count: 79,
+        k: 79,
+        nth: None,
+        e: 1023,
+        related: true,
+    },
+    ExpectedRow {
+        d: 49,
+        count: 1,
+        k: 0,
+        nth: Some(48),
+        e: 49,
+        related: false,
+    },
+    ExpectedRow {
+        d: 814,
+        count: 17,
+        k: 1,
+        nth: Some(1008),
+        e: 815,
+        related: true,
+    },
+    ExpectedRow {
+        d: 1008,
+        count: 1,
+        k: 0,
+        nth: Some(1023),
+        e: 1022,
+        related: false,
+    },
 ];
 
 /// What is expected of them over sizes 60 and 17, where 17 values in a row stand astride the words.
-const ASTRIDE: [Expected; 5] = [
-    (39, 60, 59, Some(1017), 65, true),
-    (64, 76, 48, Some(576), 575, true),
-    (64, 76, 76, None, 578, false),
-    (864, 18, 0, Some(866), 1003, true),
-    (1019, 17, 16, Some(1019), 1002, false),
+const ASTRIDE: [ExpectedRow; 5] = [
+    ExpectedRow {
+        d: 39,
+        count: 60,
+        k: 59,
+        nth: Some(1017),
+        e: 65,
+        related: true,
+    },
+    ExpectedRow {
+        d: 64,
+        count: 76,
+        k: 48,
+        nth: Some(576),
+        e: 575,
+        related: true,
+    },
+    ExpectedRow {
+        d: 64,
+        count: 76,
+        k: 76,
+        nth: None,
+        e: 578,
+        related: false,
+    },
+    ExpectedRow {
+        d: 864,
+        count: 18,
+        k: 0,
+        nth: Some(866),
+        e: 1003,
+        related: true,
+    },
+    ExpectedRow {
+        d: 1019,
+        count: 17,
+        k: 16,
+        nth: Some(1019),
+        e: 1002,
+        related: false,
+    },
 ];
 
 /// The case `a<b : a:=* b:=b+9`.
@@ -165,16 +249,15 @@ fn wide(alloc: Global, sizes: &Sizes) -> Result<Table, TableFault>
     table_of(alloc, sizes, AgentSet::none().with(A).with(B), &cases)
 }
 
-/// Whether the table of so many joint data is as expected.
-fn is_as(table: &Table, all: u16, expected: &Expected) -> bool
+/// Whether the table of so many joint data has the row that is expected.
+fn has_row(table: &Table, all: u16, row: &ExpectedRow) -> bool
     requires { length table.now ≡ all }
 {
-    let (d, count, k, nth, e, related) = *expected;
-    d < all
-        && e < all
-        && table.count(d) == count
-        && table.nth(d, k) == nth
-        && table.related(d, e) == related
+    row.d < all
+        && row.e < all
+        && table.count(row.d) == row.count
+        && table.nth(row.d, row.k) == row.nth
+        && table.related(row.d, row.e) == row.related
 }
 
 #[test]
@@ -196,9 +279,9 @@ fn sizes_and_tables(rt: HostRuntime) -> Result<(), Fail> {
 #[test]
 fn rows_of_many_words(rt: HostRuntime) -> Result<(), Fail> {
     let full = wide(rt.alloc(), &Sizes::new(&[64, 16])?)?;
-    assert!(rt; FULL.iter().all(|row| is_as(&full, 1024, row)));
+    assert!(rt; FULL.iter().all(|row| has_row(&full, 1024, row)));
     let astride = wide(rt.alloc(), &Sizes::new(&[60, 17])?)?;
-    assert!(rt; ASTRIDE.iter().all(|row| is_as(&astride, 1020, row)));
+    assert!(rt; ASTRIDE.iter().all(|row| has_row(&astride, 1020, row)));
     Ok(())
 }
 

@@ -1,9 +1,10 @@
 -- Markings as they are kept: an array of sets, of which those of the agents are read.
-use Rattle.std.proofs.Common.{◌≡◌, ℕ, ◌+◌, ◌-◌, ◌<◌, ◌≤◌, ◌&&◌, true, false, cond, ltb, List, [], length, slice_index_or, take, drop, replicate, IsTrue, sym, subst, ap, ◌∙◌, arith}
+use Rattle.std.proofs.Common.{◌≡◌, ℕ, ◌+◌, ◌-◌, ◌<◌, ◌≤◌, ◌&&◌, Bool, true, false, not, cond, eqb, ltb, List, [], length, slice_index_or, take, drop, replicate, Some, Less, Equal, Greater, IsTrue, refl, sym, subst, ap, ap₂, ◌∙◌, arith}
 use Rattle.std.proofs.lemmas.Bool.{false_from_ne_true}
 use Rattle.std.proofs.lemmas.Bool.Decides.{nat_tests}
 use Rattle.std.proofs.lemmas.List.{ext_get_or, get_or-take, get_or-drop, length-drop, length-take-le, take-replicate}
 use Rattle.std.specs.List.{list_all, range_with_len}
+use Rattle.std.specs.Ordering.{nat_cmp, is_lt, partial_le, partial_lt}
 use Rattle.nego_base.specs.Members.{is_in}
 use Rattle.nego_model.specs.declared.marking.Marking.{Marking}
 use Rattle.nego_model.specs.Occurring.{PlainMarking, final_marking, ready, moved, enables}
@@ -57,13 +58,23 @@ pub enables-past : (diagram : PlainDiagram) (marking : PlainMarking) (n : ℕ) �
 enables-past diagram marking n h =
     ap (λ b. b && list_all (λ a. is_in n (ready marking a)) (parties_of diagram n)) (is_in-range_zero n (length diagram.atoms) ∙ h)
 
--- an outcome is in a range that doesn't begin above it where it is less than the count from the start
-pub own-range : (o start count : ℕ) → start ≤ o → ltb (o - start) count ≡ is_in o (range_with_len start count)
-own-range o start count h = sym (is_in-range o start count ∙ grind (arith, nat_tests))
+-- whether a number is below another, as a range asks it
+asked-lt : (m n : ℕ) → partial_lt (λ x y. Some (nat_cmp x y)) m n ≡ ltb m n
+asked-lt m n = go (ltb m n) (eqb m n)
+  where
+    go : (below same : Bool) → is_lt (cond below Less (cond same Equal Greater)) ≡ below
+    go true same = refl
+    go false true = refl
+    go false false = refl
 
--- an outcome isn't in a range that begins above it
-pub own-above : (o start count : ℕ) → o < start → is_in o (range_with_len start count) ≡ false
-own-above o start count h = is_in-range o start count ∙ grind (arith, nat_tests)
+-- whether a number is not above another, as a range asks it
+asked-le : (m n : ℕ) → partial_le (λ x y. Some (nat_cmp x y)) m n ≡ not (ltb n m)
+asked-le m n = grind (arith, nat_tests)
+
+-- a range holds an outcome that is in the list of its numbers, and no other
+pub own-range : (o start count : ℕ) →
+    (partial_le (λ x y. Some (nat_cmp x y)) start o && partial_lt (λ x y. Some (nat_cmp x y)) o (start + count)) ≡ is_in o (range_with_len start count)
+own-range o start count = ap₂ ◌&&◌ (asked-le start o) (asked-lt o (start + count)) ∙ sym (is_in-range o start count)
 
 -- the parties have moved and nobody else
 pub moved_kept : (diagram : PlainDiagram) (old new : Marking) (parties : List ℕ) (next : ℕ → List ℕ) → length diagram.agents ≤ length old.ready → length diagram.agents ≤ length new.ready →

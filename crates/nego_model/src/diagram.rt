@@ -1,3 +1,4 @@
+//! Diagrams, and what one reads of them.
 ghost use Rattle.std.specs.Prelude.{◌≡◌, ◌≢◌, ℕ, ◌+◌, ◌<◌, ◌≤◌, [], length, All, IsTrue};
 ghost use Rattle.std.specs.List.{range_with_len};
 ghost use Rattle.nego_base.specs.Members.{is_in};
@@ -124,6 +125,7 @@ impl Diagram {
         ensures value { range_with_len result.0 result.1 ≡ outcomes_from 0 self.now.outcomes n.0 }
         ensures some { 0 < result.1 }
         ensures in_range { result.0 + result.1 ≤ length self.now.outcomes }
+        ensures limits { IsWithinLimits self.now }
     {
         let atom = &self.parts.atoms[n.0 as usize];
         (atom.start, atom.count)

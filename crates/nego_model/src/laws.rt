@@ -24,16 +24,16 @@ pub fn complete_runs_pass_everyone_at_the_last_atom()
     ensures expressions { CompleteRunsOfExpressionsPassEveryoneAtTheLastAtom }
 {}
 
-/// Two occurrences that a marking allows, of atoms without a common party, happen in each order, leave the same marking
-/// and join the same data.
+/// Two occurrences that a marking allows, of atoms without a common party, happen in each order and leave the same
+/// marking. They join the same data where each outcome acts on its parties' data alone.
 pub fn steps_apart_commute()
     ensures marking { StepsApartCommute }
     ensures outcomes { StepsApartJoinTheSame }
     ensures expressions { ExpressionsApartJoinTheSame }
 {}
 
-/// Two neighbours in a run, of atoms without a common party, may change places: the same marking is left, the same data
-/// are joined, and each agent sees the same.
+/// Two neighbours in a run, of atoms without a common party, may change places: the same marking is left, and each agent
+/// sees the same. The same data are joined where each outcome acts on its parties' data alone.
 pub fn neighbours_apart_change_places()
     ensures marking { NeighboursChangePlaces }
     ensures outcomes { NeighboursKeepJoinedData }

@@ -1,4 +1,4 @@
-//! What a deterministic negotiation is and does: diagrams, markings, runs, soundness, joined data, expressions.
+//! What a negotiation is and does, deterministic or not: diagrams, markings, runs, soundness, joined data, expressions.
 #![tactic(auto)]
 
 mod determinism;

@@ -1,3 +1,4 @@
+//! Markings, and how occurrences change them.
 ghost use Rattle.std.specs.Prelude.{◌≡◌, ◌↔◌, ◌<◌, [], ◌∷◌, Some, None, if◌then◌else◌, length, drop, replicate, IsTrue};
 ghost use Rattle.std.specs.List.{list_all};
 ghost use Rattle.nego_base.specs.Members.{is_in};
@@ -12,6 +13,7 @@ use nego_base::{AgentId, AtomId, AtomSet, OutcomeId};
 /// here takes memory.
 #[derive(Clone, Copy, Debug, PartialEq, Eq)]
 pub struct Marking {
+    /// For each agent the atoms that it is ready for, and past the agents anything.
     pub ready: [AtomSet; 16],
 }
 
@@ -95,5 +97,5 @@ fn is_own(d: &Diagram, n: AtomId, o: OutcomeId) -> bool
     ensures in_range { IsTrue result → o.0 < length d.now.outcomes }
 {
     let (start, count) = d.outcomes_of(n);
-    o.0 >= start && o.0 - start < count
+    (start..start + count).contains(&o.0)
 }

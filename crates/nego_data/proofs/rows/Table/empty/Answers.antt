@@ -5,5 +5,5 @@ use Rattle.nego_data.proofs.rows.Table.empty.Goals as goal
 
 pub returns : goal.returns
 returns c =
-    ap (rows_of_words c.args.count) (c.in_ok-words.ensures.items_if_clones_equal (λ y h. search rules))
-    ∙ rows_of_zeros c.args.count (c.args.count * c.row_words.result)
+    ap (rows_of_words c.args.all) (c.in_ok-words.ensures.items_if_clones_equal (λ y h. search rules))
+    ∙ rows_of_zeros c.args.all (c.args.all * c.row_words.result)
