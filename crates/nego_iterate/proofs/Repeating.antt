@@ -10,12 +10,12 @@ use Rattle.nego_model.specs.Negotiation.{Negotiation, IsNegotiation, IsDetermini
 use Rattle.nego_model.specs.Occurring.{PlainMarking, Occurrence, ready, moved, enables, after, opening_marking, IsSound}
 use Rattle.nego_model.specs.Joining.{Relation, Runs}
 use Rattle.nego_model.specs.Expression.{IsPath}
-use Rattle.nego_model.specs.Reaching.{all_at_last, Leads, Reaches, EndsAtLast}
+use Rattle.nego_model.specs.Reaching.{all_at_last, Reaches, EndsAtLast}
 use Rattle.nego_model.specs.Locality.{IsLocal}
 use Rattle.nego_model.specs.Projection.{AreApart}
 use Rattle.nego_model.proofs.Markings.{length-moved, ready-moved_party, ready-moved_other, same_markings, enables-party}
 use Rattle.nego_model.proofs.Steps.{after-some, after-outcome, after_from}
-use Rattle.nego_model.proofs.Reached.{Leads-itself, Leads_one, Leads-from_reaches, Reaches-itself, Reaches_one, Reaches_first, Reaches_then, reached_by_last}
+use Rattle.nego_model.proofs.Reached.{Leads, Leads-itself, Leads_one, Leads-from_reaches, Reaches-itself, Reaches_one, Reaches_first, Reaches_then, reached_by_last}
 use Rattle.nego_model.proofs.Proper.{IsProper, IsSingle, opening-proper, opening-single, after-proper, after-single, ready_alone}
 use Rattle.nego_model.proofs.Expressions.{IsPath_one, IsPath_through}
 use Rattle.nego_model.proofs.Gathered.{all_ready-enabled}

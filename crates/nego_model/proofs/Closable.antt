@@ -7,11 +7,11 @@ use Rattle.nego_base.specs.Members.{is_in}
 use Rattle.nego_base.proofs.Members.{is_in-head, is_in_none, is_in_single, some_member}
 use Rattle.nego_model.specs.Negotiation.{Negotiation, IsNegotiation, IsDeterministic, IsOutcome}
 use Rattle.nego_model.specs.Occurring.{PlainMarking, Occurrence, ready, moved, enables, after, leaves, opening_marking, final_marking, IsSound}
-use Rattle.nego_model.specs.Reaching.{all_at_last, Leads}
+use Rattle.nego_model.specs.Reaching.{all_at_last}
 use Rattle.nego_model.specs.Acyclic.{IsEdge}
 use Rattle.nego_model.proofs.Markings.{ready-replicate, enables-atom, enables-party}
 use Rattle.nego_model.proofs.Steps.{after-some, after-outcome, after_from, leaves-first}
-use Rattle.nego_model.proofs.Reached.{Leads-itself}
+use Rattle.nego_model.proofs.Reached.{Leads, Leads-itself}
 use Rattle.nego_model.proofs.Gathered.{all_ready-enabled, all_ready-enables, after_gathered, after_nothing_ready, after_all_sent}
 use Rattle.nego_model.proofs.Ways.{after_all_at_last, sound_leads}
 use Rattle.nego_model.proofs.Ahead.{IsReached, ready-after_party, reached-after, reached-below}

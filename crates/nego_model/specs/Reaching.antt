@@ -1,4 +1,4 @@
--- Where occurrences lead: from a marking to markings, and from a marking and joint data to such pairs.
+-- Where occurrences lead from a marking and joint data.
 use Rattle.std.specs.Prelude.{◌≡◌, ℕ, List, [], ◌∷◌, replicate, Some}
 use Rattle.nego_model.specs.Negotiation.{Negotiation, IsOutcome}
 use Rattle.nego_model.specs.Occurring.{PlainMarking, Occurrence, opening_marking, leaves}
@@ -7,11 +7,6 @@ use Rattle.nego_model.specs.Joining.{Relation, Joins}
 -- everyone is ready for the last atom alone
 abbrev pub all_at_last : Negotiation → PlainMarking
 all_at_last nego = replicate nego.agents (nego.last ∷ [])
-
--- Some occurrences lead from a marking to another.
-pub record Leads (nego : Negotiation) (from to : PlainMarking) : Type 0 where
-  pub steps : List Occurrence
-  pub leads : leaves nego from steps ≡ Some to
 
 -- Some occurrences lead from a marking to another, and join d to e.
 pub record Reaches (nego : Negotiation) (relation : Relation) (from : PlainMarking) (d : ℕ) (to : PlainMarking) (e : ℕ) : Type 0 where

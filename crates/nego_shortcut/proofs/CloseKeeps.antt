@@ -12,11 +12,11 @@ use Rattle.nego_model.specs.Negotiation.{Negotiation, IsNegotiation}
 use Rattle.nego_model.specs.Occurring.{PlainMarking, Occurrence, enables, after, opening_marking, final_marking, IsSound}
 use Rattle.nego_model.specs.Joining.{RelationTest, By}
 use Rattle.nego_model.specs.Expression.{PlainNode, Then, IsNodeList, Means, EachBase, children}
-use Rattle.nego_model.specs.Reaching.{all_at_last, Leads, Reaches}
+use Rattle.nego_model.specs.Reaching.{all_at_last, Reaches}
 use Rattle.nego_base.proofs.Members.{is_in-head, is_in-cases, is_in_none, is_in_single, all_at, some_member, is_in-filter, is_in-range_zero, rises-filter, all_in-member, all_in-members}
 use Rattle.nego_model.proofs.Steps.{after-outcome}
 use Rattle.nego_model.proofs.Expressions.{Means-append, EachBase-weaker}
-use Rattle.nego_model.proofs.Reached.{Leads-itself, Leads_one, Leads_through, Reaches_one, reached_by_last}
+use Rattle.nego_model.proofs.Reached.{Leads, Leads-itself, Leads_one, Leads_through, Reaches_one, reached_by_last}
 use Rattle.nego_model.proofs.Ways.{after_all_at_last, runs_pass_all_at_last, Runs-from_all_at_last, Sound_from_leads}
 use Rattle.nego_model.proofs.Gathered.{all_ready-enables, after_gathered, after_nothing_ready, after_all_sent, all_ready-same}
 use Rattle.nego_model.proofs.Simulating.{Lasts, Lasts-led}
