@@ -5,9 +5,13 @@ mod answer;
 mod certificate;
 mod command;
 mod deliver;
+#[cfg(test)]
+mod form_tests;
 mod form_text;
 mod narrow;
 mod order;
+#[cfg(test)]
+mod shape_tests;
 mod shape_text;
 mod splitting;
 mod status;

@@ -13,14 +13,10 @@ mod finding;
 pub mod laws;
 mod making;
 mod numbering;
-#[cfg(test)]
-mod order_tests;
 mod ordering;
 mod placing;
 mod shaping;
 mod sizing;
-#[cfg(test)]
-mod tests;
 mod totality;
 
 pub use answer::Order;
