@@ -2,17 +2,20 @@ use crate::nego;
 use nego_base::{Memory, Seq, Text};
 use nego_io::{MemSink, MemSource, Source};
 use std::alloc::Global;
+use std::process::Abort;
 use std::test::Fail;
 
 /// A call over memory, and what comes of it.
+#[derive(Clone, Copy)]
 struct Row {
     words: &'static [&'static [u8]],
     /// How many bytes `#` the input begins with, and its other bytes.
     hashes: usize,
     input: &'static [u8],
-    /// The numbers of the calls of the source and of `out` that fail, counted from 0.
+    /// The numbers of the calls of the source, of `out` and of `err` that fail, counted from 0.
     source_fails: &'static [u64],
     out_fails: &'static [u64],
+    err_fails: &'static [u64],
     status: u8,
     out: &'static [u8],
     err: &'static [u8],
@@ -23,12 +26,17 @@ struct Row {
 const SET: &[u8] =
     b"nego 1\nagent a 2\natom only a\nout set\ncase : a:=1\nfirst only\nlast only\nend\n";
 
+/// A purchase, as in the folder of examples.
+pub(crate) const PURCHASE: &[u8] =
+    b"nego 1\nagent buyer 4\nagent seller 4\nagent bank 2\nagent carrier 2\n# prices are settled first\natom open buyer seller bank carrier\nout go\ncase :\nnext talk buyer seller\nnext deal bank carrier\natom talk buyer seller\nout counter\ncase : buyer:=buyer+1\nnext talk buyer seller\nout agree\ncase buyer>=seller :\ncase buyer<seller : buyer:=seller\nnext deal buyer seller\nout walk\ncase : buyer:=0\nnext deal buyer seller\natom deal buyer seller bank carrier\nout proceed\ncase :\nnext pay buyer bank\nnext ship seller carrier\nout drop\ncase :\nnext close buyer seller bank carrier\natom pay buyer bank\nout paid\ncase : bank:=1\nnext close buyer bank\natom ship seller carrier\nout sent\ncase : carrier:=1\nnext close seller carrier\natom close buyer seller bank carrier\nout delivered\ncase :\nout cancelled\ncase : bank:=0 carrier:=0\nfirst open\nlast close\nend\n";
+
 const REDUCED: Row = Row {
     words: &[b"reduce"],
     hashes: 0,
     input: SET,
     source_fails: &[],
     out_fails: &[],
+    err_fails: &[],
     status: 0,
     out: b"certificate 1\nend\nsound uses 0\nsummary 1\nnode 0 base 0\nfinal set 0\nend\n",
     err: b"",
@@ -49,7 +57,8 @@ const BAD_WORDS: Row = Row {
     ..REDUCED
 };
 
-static ROWS: [Row; 44] = [
+/// What is told on `out`.
+static ANSWERS: [Row; 15] = [
     REDUCED,
     Row {
         input: b"nego 1\nagent a 2\natom only a\nout set\ncase : a:=1\nfirst only\nlast only\nend\nend\nmore",
@@ -90,6 +99,16 @@ static ROWS: [Row; 44] = [
         ..REDUCED
     },
     Row {
+        input: b"nego 1\nagent a 2\nagent b 3\natom start a b\nout go\ncase a=b : a:=0\ncase a!=b : b:=a\nnext stop a b\natom stop a b\nout ok\ncase :\nfirst start\nlast stop\nend\n",
+        out: b"certificate 1\nclose\nend\nsound uses 1\nsummary 1\nnode 0 base 0\nnode 1 base 1\nnode 2 then 0 1\nfinal ok 2\nend\n",
+        ..REDUCED
+    },
+    Row {
+        input: b"nego 1\nagent a 2\nagent b 3\natom only a b\nout set\ncase a<b : a:=0 b:=a\ncase a>=b : b:=2\nout keep\ncase :\nfirst only\nlast only\nend\n",
+        out: b"certificate 1\nend\nsound uses 0\nsummary 1\nnode 0 base 0\nnode 1 base 1\nfinal set 0\nfinal keep 1\nend\n",
+        ..REDUCED
+    },
+    Row {
         words: &[b"check"],
         input: b"nego 1\nagent a 2\nagent b 2\nagent c 2\natom fork a b c\nout go\ncase :\nnext ab a b\nnext cc c\natom ab a b\nout x\ncase : a:=b b:=a\nnext join a b\natom cc c\nout y\ncase : c:=1\nnext join c\natom join a b c\nout ok\ncase :\nfirst fork\nlast join\nend\n",
         out: b"agents 3\natoms 4\noutcomes 4\njoint 8\ndeterministic\nacyclic fork ab cc join\n",
@@ -107,6 +126,16 @@ static ROWS: [Row; 44] = [
         out: b"agents 1\natoms 4\noutcomes 4\njoint 2\nnot deterministic start.go a\nacyclic start p q end\n",
         ..REDUCED
     },
+    Row {
+        words: &[b"check"],
+        input: PURCHASE,
+        out: b"agents 4\natoms 6\noutcomes 10\njoint 64\ndeterministic\ncyclic talk\n",
+        ..REDUCED
+    },
+];
+
+/// What is refused.
+static REFUSALS: [Row; 29] = [
     Row {
         input: b"nego 1\nagent a 2\natom start a\nout go\ncase :\nnext p a\nnext q a\natom p a\nout o\ncase :\nnext end a\natom q a\nout o\ncase :\nnext end a\natom end a\nout ok\ncase :\nfirst start\nlast end\nend\n",
         err: b"refused NotDeterministic start.go a\n",
@@ -137,18 +166,17 @@ static ROWS: [Row; 44] = [
         ..REFUSED
     },
     Row {
-        words: &[b"check"],
-        input: b"nego 1\nagent buyer 4\nagent seller 4\nagent bank 2\nagent carrier 2\n# prices are settled first\natom open buyer seller bank carrier\nout go\ncase :\nnext talk buyer seller\nnext deal bank carrier\natom talk buyer seller\nout counter\ncase : buyer:=buyer+1\nnext talk buyer seller\nout agree\ncase buyer>=seller :\ncase buyer<seller : buyer:=seller\nnext deal buyer seller\nout walk\ncase : buyer:=0\nnext deal buyer seller\natom deal buyer seller bank carrier\nout proceed\ncase :\nnext pay buyer bank\nnext ship seller carrier\nout drop\ncase :\nnext close buyer seller bank carrier\natom pay buyer bank\nout paid\ncase : bank:=1\nnext close buyer bank\natom ship seller carrier\nout sent\ncase : carrier:=1\nnext close seller carrier\natom close buyer seller bank carrier\nout delivered\ncase :\nout cancelled\ncase : bank:=0 carrier:=0\nfirst open\nlast close\nend\n",
-        out: b"agents 4\natoms 6\noutcomes 10\njoint 64\ndeterministic\ncyclic talk\n",
-        ..REDUCED
-    },
-    Row {
         input: b"nego 1\nagent a 2\nagent b 2\nagent c 2\natom fork a b c\nout go\ncase :\nnext ab a b\nnext cc c\natom ab a b\nout x\ncase : a:=b b:=a\nnext join a b\natom cc c\nout y\ncase : c:=1\nnext join c\natom join a b c\nout ok\ncase :\nfirst fork\nlast join\nend\n",
         err: b"refused diagram not yet\n",
         ..REFUSED
     },
     Row {
         input: b"nego 1\nagent a 4\natom turn a\nout again\ncase : a:=a+1\nnext turn a\nout stop\ncase :\nnext end a\natom end a\nout ok\ncase :\nfirst turn\nlast end\nend\n",
+        err: b"refused diagram not yet\n",
+        ..REFUSED
+    },
+    Row {
+        input: b"nego 1\nagent a 2\nagent b 2\natom extra a b\nout x\ncase :\nnext only a b\natom only a b\nout set\ncase : a:=1\nfirst only\nlast only\nend\n",
         err: b"refused diagram not yet\n",
         ..REFUSED
     },
@@ -178,6 +206,21 @@ static ROWS: [Row; 44] = [
         ..REFUSED
     },
     Row {
+        input: b"nego 3\nagent a 2\natom only a\nout s\x07t\ncase : a:=1\nfirst only\nlast only\nend\n",
+        err: b"refused diagram line 4 column 6 Byte\n",
+        ..REFUSED
+    },
+    Row {
+        input: b"nego 1\nagent a\natom only a\nout set\ncase : a:=1\nfirst only\nlast only\nend\n",
+        err: b"refused diagram line 2 column 8 Count\n",
+        ..REFUSED
+    },
+    Row {
+        input: b"nego 1\nagent a 2 3\natom only a\nout set\ncase : a:=1\nfirst only\nlast only\nend\n",
+        err: b"refused diagram line 2 column 11 Count\n",
+        ..REFUSED
+    },
+    Row {
         input: b"nego 1\nagent a 2\natom only a\nout set\ncase : a:=1\nfirst other\nlast only\nend\n",
         err: b"refused diagram line 6 Unknown other\n",
         ..REFUSED
@@ -200,6 +243,28 @@ static ROWS: [Row; 44] = [
     Row {
         input: b"nego 1\nagent a 2\natom only a\nout set\ncase a=0 : a:=1\nfirst only\nlast only\nend\n",
         err: b"refused diagram line 4 NotTotal only.set 1\n",
+        ..REFUSED
+    },
+    // The fault of shape comes before the second next atom, and faults of the grammar before both.
+    Row {
+        input: b"nego 1\nagent a 2\natom start a\nout go\ncase : a:=2\nnext p a\nnext q a\natom p a\nout o\ncase :\nnext end a\natom q a\nout o\ncase :\nnext end a\natom end a\nout ok\ncase :\nfirst start\nlast end\nend\n",
+        err: b"refused diagram line 5 ValueTooLarge start.go a\n",
+        ..REFUSED
+    },
+    Row {
+        words: &[b"check"],
+        input: b"nego 1\nagent a 2\natom start a\nout go\ncase : a:=2\nnext p a\nnext q a\natom p a\nout o\ncase :\nnext end a\natom q a\nout o\ncase :\nnext end a\natom end a\nout ok\ncase :\nfirst start\nlast end\nend\n",
+        err: b"refused diagram line 5 ValueTooLarge start.go a\n",
+        ..REFUSED
+    },
+    Row {
+        input: b"nego 1\nagent a 02\natom start a\nout go\ncase : a:=2\nnext p a\nnext q a\natom p a\nout o\ncase :\nnext end a\natom q a\nout o\ncase :\nnext end a\natom end a\nout ok\ncase :\nfirst start\nlast end\nend\n",
+        err: b"refused diagram line 2 column 9 Number\n",
+        ..REFUSED
+    },
+    Row {
+        input: b"nego 1\nagent a 2\natom start a\nout go\ncase : a:=2\nnext p a\nnext q a\natom p a\nout o\ncase :\nnext end a\natom q a\nout o\ncase :\nnext end a\natom end a\nout Ok\ncase :\nfirst start\nlast end\nend\n",
+        err: b"refused diagram line 17 column 5 Name\n",
         ..REFUSED
     },
     Row {
@@ -225,6 +290,10 @@ static ROWS: [Row; 44] = [
         err: b"refused diagram TooLong\n",
         ..REFUSED
     },
+];
+
+/// Faults of the source and of the sinks.
+static FAULTS: [Row; 4] = [
     Row {
         source_fails: &[0],
         status: 5,
@@ -241,37 +310,30 @@ static ROWS: [Row; 44] = [
         ..REDUCED
     },
     Row {
-        words: &[],
-        ..BAD_WORDS
+        out_fails: &[0],
+        err_fails: &[0],
+        status: 6,
+        out: b"",
+        ..REDUCED
     },
     Row {
-        words: &[b"reduce", b"x"],
-        ..BAD_WORDS
+        input: b"",
+        err_fails: &[0],
+        status: 6,
+        ..REFUSED
     },
-    Row {
-        words: &[b"replay"],
-        ..BAD_WORDS
-    },
-    Row {
-        words: &[b"help"],
-        ..BAD_WORDS
-    },
-    Row {
-        words: &[b"--help"],
-        ..BAD_WORDS
-    },
-    Row {
-        words: &[b"ask"],
-        ..BAD_WORDS
-    },
-    Row {
-        words: &[b"ask", b"01"],
-        ..BAD_WORDS
-    },
-    Row {
-        words: &[b"make", b"65"],
-        ..BAD_WORDS
-    },
+];
+
+/// Words that are no command that is built.
+static OFF_WORDS: [&[&[u8]]; 8] = [
+    &[],
+    &[b"reduce", b"x"],
+    &[b"replay"],
+    &[b"help"],
+    &[b"--help"],
+    &[b"ask"],
+    &[b"ask", b"01"],
+    &[b"make", b"65"],
 ];
 
 fn words_of(alloc: Global, words: &[&[u8]]) -> Result<Seq<Text>, Memory> {
@@ -290,20 +352,35 @@ fn input_of(alloc: Global, row: &Row) -> Result<Text, Memory> {
 
 #[test]
 fn calls_over_memory(rt: HostRuntime) -> Result<(), Fail> {
-    let alloc = rt.alloc();
-    for (i, row) in ROWS.iter().enumerate() {
-        let words = words_of(alloc, row.words)?;
-        let fails = Seq::copy_of(alloc, row.source_fails)?;
-        let mut source = MemSource::new(input_of(alloc, row)?, fails);
-        let mut out = MemSink::new(alloc, Seq::copy_of(alloc, row.out_fails)?)?;
-        let mut err = MemSink::new(alloc, Seq::new(alloc))?;
-        let status = nego(alloc, &words, &mut source, &mut out, &mut err);
-        assert_eq!(rt; status.number(), row.status, "row {i}");
-        assert!(rt; out.bytes() == row.out, "row {i}");
-        assert!(rt; err.bytes() == row.err, "row {i}");
-        let mut left = [0u8; 128];
-        let n = source.take(&mut left)?;
-        assert!(rt; &left[..n] == row.left, "row {i}");
+    for (i, row) in ANSWERS.iter().enumerate() {
+        answers(&rt, rt.alloc(), row, "answer", i)?;
     }
+    for (i, row) in REFUSALS.iter().enumerate() {
+        answers(&rt, rt.alloc(), row, "refusal", i)?;
+    }
+    for (i, row) in FAULTS.iter().enumerate() {
+        answers(&rt, rt.alloc(), row, "fault", i)?;
+    }
+    for (i, words) in OFF_WORDS.iter().enumerate() {
+        let row = Row { words, ..BAD_WORDS };
+        answers(&rt, rt.alloc(), &row, "words", i)?;
+    }
+    Ok(())
+}
+
+/// That the call answers as the row says, which is in this place of this table.
+fn answers(rt: &impl Abort, alloc: Global, row: &Row, table: &str, i: usize) -> Result<(), Fail> {
+    let words = words_of(alloc, row.words)?;
+    let fails = Seq::copy_of(alloc, row.source_fails)?;
+    let mut source = MemSource::new(input_of(alloc, row)?, fails);
+    let mut out = MemSink::new(alloc, Seq::copy_of(alloc, row.out_fails)?)?;
+    let mut err = MemSink::new(alloc, Seq::copy_of(alloc, row.err_fails)?)?;
+    let status = nego(alloc, &words, &mut source, &mut out, &mut err);
+    assert!(rt; status.number() == row.status, "{table} {i}");
+    assert!(rt; out.bytes() == row.out, "{table} {i}");
+    assert!(rt; err.bytes() == row.err, "{table} {i}");
+    let mut left = [0u8; 128];
+    let n = source.take(&mut left)?;
+    assert!(rt; &left[..n] == row.left, "{table} {i}");
     Ok(())
 }
