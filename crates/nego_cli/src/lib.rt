@@ -11,6 +11,8 @@ mod form_text;
 mod narrow;
 mod order;
 #[cfg(test)]
+mod run_tests;
+#[cfg(test)]
 mod shape_tests;
 mod shape_text;
 mod splitting;
