@@ -1,9 +1,46 @@
 //! The standard streams as a source and as sinks. They count their faults, and tell nothing of their bytes.
 
-ghost use Rattle.std.specs.Prelude.{◌≡◌, ℕ, None};
+ghost use Rattle.std.specs.Prelude.{◌≡◌, ◌≢◌, ◌≤◌, ℕ, [], None, Ok, IsErr, IfOk, OnErr};
+ghost use Rattle.nego_io.specs.Outside.{next_count};
 
 use nego_io::{Failed, Sink, Source};
+use std::io;
 use std::io::{Read, Write};
+
+/// Counts one fault more. The count stays at its last value.
+fn fault(faults: &mut u64) -> Failed
+    ensures counted { faults.new ≡ next_count faults.old }
+    ensures later { faults.old ≤ faults.new }
+{
+    *faults = faults.saturating_add(1);
+    Failed
+}
+
+/// What a reader's answer is for a source: its number, and a counted fault exactly where it is an error.
+fn read_answer(answer: io::Result<usize>, faults: &mut u64) -> Result<usize, Failed>
+    ensures ok { IfOk answer (λ n. (result ≡ Ok n) × (faults.new ≡ faults.old)) }
+    ensures err { OnErr answer (IsErr result × (faults.new ≡ next_count faults.old)) }
+    ensures later { faults.old ≤ faults.new }
+{
+    match answer {
+        Ok(count) => Ok(count),
+        Err(_) => Err(fault(faults)),
+    }
+}
+
+/// What a writer's answer for a piece is for a sink: its number, and a counted fault exactly where it is an error or
+/// nothing was taken of a piece that isn't empty.
+fn write_answer(answer: io::Result<usize>, piece: &[u8], faults: &mut u64) -> Result<usize, Failed>
+    ensures ok { IfOk answer (λ n. (n ≡ 0 → piece.now ≡ []) → (result ≡ Ok n) × (faults.new ≡ faults.old)) }
+    ensures nothing { IfOk answer (λ n. n ≡ 0 → piece.now ≢ [] → IsErr result × (faults.new ≡ next_count faults.old)) }
+    ensures err { OnErr answer (IsErr result × (faults.new ≡ next_count faults.old)) }
+    ensures later { faults.old ≤ faults.new }
+{
+    match answer {
+        Ok(count) if count > 0 || piece.is_empty() => Ok(count),
+        _ => Err(fault(faults)),
+    }
+}
 
 /// A source that takes from a reader. Each error of the reader is a fault.
 #[derive(Drop)]
@@ -26,13 +63,7 @@ impl<R: Read> Source for ReaderSource<R> {
     ghost faults = { λ source. source.faults };
 
     fn take(&mut self, buf: &mut [u8]) -> Result<usize, Failed> {
-        match self.reader.read(buf) {
-            Ok(count) => Ok(count),
-            Err(_) => {
-                self.faults = self.faults.saturating_add(1);
-                Err(Failed)
-            }
-        }
+        read_answer(self.reader.read(buf), &mut self.faults)
     }
 }
 
@@ -57,12 +88,6 @@ impl<W: Write> Sink for WriterSink<W> {
     ghost faults = { λ sink. sink.faults };
 
     fn put(&mut self, piece: &[u8]) -> Result<usize, Failed> {
-        match self.writer.write(piece) {
-            Ok(count) if count > 0 || piece.is_empty() => Ok(count),
-            _ => {
-                self.faults = self.faults.saturating_add(1);
-                Err(Failed)
-            }
-        }
+        write_answer(self.writer.write(piece), piece, &mut self.faults)
     }
 }
