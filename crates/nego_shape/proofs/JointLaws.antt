@@ -18,10 +18,12 @@ use Rattle.nego_reader.specs.Content.{content_of, out_content}
 use Rattle.nego_shape.specs.declared.checks.outcomes.Rule.{Rule}
 use Rattle.nego_shape.specs.declared.checks.outcomes.Rule.TheVariants as rules
 use Rattle.nego_shape.specs.declared.fault.Many.TheVariants as many
+use Rattle.nego_shape.specs.declared.fault.ShapeAnswer.{ShapeAnswer}
+use Rattle.nego_shape.specs.declared.fault.ShapeAnswer.TheVariants as answers
 use Rattle.nego_shape.specs.declared.fault.ShapeFault.{ShapeFault}
 use Rattle.nego_shape.specs.declared.fault.ShapeKind.{ShapeKind}
 use Rattle.nego_shape.specs.declared.fault.ShapeKind.TheVariants as kinds
-use Rattle.nego_shape.specs.Answer.{AreJointIn}
+use Rattle.nego_shape.specs.Answer.{Tells, AreJointIn, HasJoint}
 use Rattle.nego_shape.specs.Firsts.{first_among, first_numbered}
 use Rattle.nego_shape.specs.Naming.{sizes_in, cases_in}
 use Rattle.nego_shape.specs.Faults.{fault_on, no_agent, past, out_names, too_many, twice, twice_in, unknown, unknown_in, no_party_at, no_party, no_outcome_at, no_outcome, lacks, party_fault, is_last, is_missing, is_stranger, is_outside, is_overfull, agent_fault, atom_number, case_line, next_stranger_on, not_party_on, value_too_large_on, broken_at, broken_among, broken_from, next_fault, broken, zero_size_at, zero_size, size_too_large_at, size_too_large, joint_from, joint_too_large, size_fault, inner_fault, form_fault, first_uncovered, not_total_at, not_total_among, not_total_from, not_total}
@@ -52,6 +54,11 @@ module _ {B : Type 0} (P : B → Type 0) where
 module _ (p : Parsed) where
   abbrev Joint : ShapeFault → Type 0
   Joint fault = AreJointIn p fault.kind
+
+  -- an answer that tells a fault tells its joint data
+  pub told_joint : (e : ShapeAnswer) (fault : Option ShapeFault) → IfSome fault (λ f. AreJointIn p f.kind) → Tells e fault → HasJoint e p
+  told_joint answers.Memory fault h told = tt
+  told_joint (answers.Off f) fault h told = subst (λ (o : Option ShapeFault). IfSome o Joint) told h
 
   agent_joint : (line : ℕ) (kind : AgentId → ShapeKind) (test : PAgent → Bool) (agents : List PAgent) → ((a : AgentId) → AreJointIn p (kind a)) → IfSome (agent_fault line kind test agents) Joint
   agent_joint line kind test agents h = map_has Joint (λ a. fault_on line (kind (record { 0 = a }))) (position test agents) (λ a e. h (record { 0 = a }))

@@ -1,12 +1,11 @@
 -- The parts that are made are those of the content's diagram.
 use Rattle.std.proofs.Common.{◌≡◌, ℕ, ◌+◌, ◌<◌, ◌≤◌, List, [], ◌∷◌, ◌++◌, length, map, take, drop, get_or, Some, slice_get, zero, suc, refl, sym, ap, subst, ◌∙◌, arith, append_assoc}
-use Rattle.std.specs.Option.{option_map_or}
 use Rattle.std.proofs.lemmas.Simd.{map-map}
 use Rattle.std.proofs.lemmas.Option.{none-some, same_Some, slice_get-get_or}
-use Rattle.std.proofs.lemmas.List.{length-map, length-append, length-take-le, map-append, get_or-map, get_or-take, get_or_default, take_more}
+use Rattle.std.proofs.lemmas.List.{length-map, length-append, length-take-le, map-append, get_or-map, get_or-take, take_more}
 use Rattle.std.proofs.lemmas.List.FromFn.{fill_by_all}
 use Rattle.std.proofs.lemmas.List.Elements.{Contains-append_left, Contains-append_right, Contains-get_or}
-use Rattle.std.specs.List.{Contains, range_with_len}
+use Rattle.std.specs.List.{All, Contains, range_with_len}
 use Rattle.nego_model.specs.declared.parts.AtomPart.{AtomPart}
 use Rattle.nego_model.specs.declared.parts.OutcomePart.{OutcomePart}
 use Rattle.nego_model.specs.Diagram.{PlainAtom, PlainOutcome, PlainDiagram}
@@ -23,7 +22,7 @@ use Rattle.nego_reader.specs.Content.{Content, AgentContent, AtomContent, OutCon
 use Rattle.nego_model.proofs.Readers.{mapped_at}
 use Rattle.nego_reader.proofs.Loops.{cut_at}
 use Rattle.nego_shape.specs.Naming.{place_of, agent_names, atom_names, sizes_in, outs_from, all_outs, test_in, set_in, case_in, atom_in, outcome_in, diagram_in}
-use Rattle.nego_shape.specs.Made.{placed_at, outcomes_at, part_in, parts_from}
+use Rattle.nego_shape.specs.Made.{placed_at, part_in, parts_from}
 
 -- parts without the numbers of their outcomes
 plain-parts_from : (c : Content) (k : ℕ) (atoms : List AtomContent) → map plain_atom (parts_from c k atoms) ≡ map (atom_in c) atoms
@@ -77,46 +76,32 @@ outs-contain n (suc i) (x ∷ xs) atom k d at h =
     Contains-append_right (map (placed_at n) x.outs) (outs_from (n + 1) xs) (placed_at (n + suc i) (get_or atom.outs k d))
     (subst (λ m. Contains (outs_from (n + 1) xs) (placed_at m (get_or atom.outs k d))) there (outs-contain (n + 1) i xs atom k d at h))
 
--- the outcome at a place of an atom's outcomes is among all
-pub out_is_placed : (p : Parsed) (n : ℕ) (atom : PAtom) (outs : List POut) (k : ℕ) (out : POut) → slice_get p.atoms n ≡ Some atom → outs ≡ atom.outs → k < length outs → out ≡ get_or outs k out →
-    Contains (all_outs (content_of p)) (placed_at n (out_content out))
-out_is_placed p n atom outs k out there same inside it =
+-- the outcomes of the atom at a place are among all
+pub outs_are_placed : (p : Parsed) (n : ℕ) (atom : PAtom) → n < length p.atoms → atom ≡ get_or p.atoms n atom → All (λ out. Contains (all_outs (content_of p)) (placed_at n (out_content out))) atom.outs
+outs_are_placed p n atom below is k d inside =
+    let out = get_or atom.outs k d in
+    let there : slice_get p.atoms n ≡ Some atom = slice_get-get_or p.atoms n atom below ∙ ap (λ (x : PAtom). Some x) (sym is) in
     let at : slice_get (map atom_content p.atoms) n ≡ Some (atom_content atom) = mapped_at atom_content p.atoms n atom there in
-    let within : k < length atom.outs = subst (λ (os : List POut). k < length os) same inside in
     let long : length (map out_content atom.outs) ≡ length atom.outs = length-map atom.outs out_content in
     let zero_n : 0 + n ≡ n = omega arith in
-    let item : get_or (map out_content atom.outs) k (out_content out) ≡ out_content out =
-    get_or-map out_content atom.outs k out (out_content out) within ∙ ap out_content (ap (λ (os : List POut). get_or os k out) (sym same) ∙ sym it) in
+    let item : get_or (map out_content atom.outs) k (out_content out) ≡ out_content out = get_or-map out_content atom.outs k d (out_content out) inside in
     subst (λ m. Contains (all_outs (content_of p)) (placed_at m (out_content out))) zero_n
     (subst (λ (x : OutContent). Contains (all_outs (content_of p)) (placed_at (0 + n) x)) item
-    (outs-contain 0 n (map atom_content p.atoms) (atom_content atom) k (out_content out) at (omega (arith, long, within))))
-
--- what is put behind: an atom's outcomes, as the diagram has them
-pub outcomes_put : (p : Parsed) (n : ℕ) (atom : PAtom) (outs : List POut) → slice_get p.atoms n ≡ Some atom → outs ≡ atom.outs →
-    map (λ out. outcome_in (content_of p) (placed_at n (out_content out))) outs ≡ outcomes_at (content_of p) n
-outcomes_put p n atom outs there same =
-    let c = content_of p in
-    let at : slice_get (map atom_content p.atoms) n ≡ Some (atom_content atom) = mapped_at atom_content p.atoms n atom there in
-    ap (λ (os : List POut). map (λ (out : POut). outcome_in c (placed_at n (out_content out))) os) same
-    ∙ (sym (ap (map (outcome_in c)) (map-map (placed_at n) out_content atom.outs) ∙ map-map (outcome_in c) (λ (out : POut). placed_at n (out_content out)) atom.outs)
-    ∙ sym (ap (λ o. option_map_or (λ (x : AtomContent). map (outcome_in c) (map (placed_at n) x.outs)) o []) at))
+    (outs-contain 0 n (map atom_content p.atoms) (atom_content atom) k (out_content out) at (omega (arith, long, inside))))
 
 -- the outcomes of the atoms from n on: those of atom n, and then the others
-pub outs_cut : (p : Parsed) (n : ℕ) (front made : List PlainOutcome) (total : List PlainOutcome) → n < length p.atoms → made ≡ front ++ outcomes_at (content_of p) n →
+pub outs_cut : (p : Parsed) (n : ℕ) (atom : PAtom) (front made total : List PlainOutcome) → n < length p.atoms → atom ≡ get_or p.atoms n atom →
+    made ≡ front ++ map (λ out. outcome_in (content_of p) (placed_at n (out_content out))) atom.outs →
     front ++ map (outcome_in (content_of p)) (outs_from n (map atom_content (drop n p.atoms))) ≡ total →
     made ++ map (outcome_in (content_of p)) (outs_from (n + 1) (map atom_content (drop (n + 1) p.atoms))) ≡ total
-outs_cut p n front made total below put so_far =
+outs_cut p n atom front made total below is put so_far =
     let c = content_of p in
-    let none : PAtom = record { name = p.first; parties = []; outs = [] } in
-    let atom : PAtom = get_or p.atoms n none in
-    let is : atom ≡ get_or p.atoms n atom = get_or_default p.atoms n none atom below in
-    let at : slice_get p.atoms n ≡ Some atom = slice_get-get_or p.atoms n none below in
     let rest = map (outcome_in c) (outs_from (n + 1) (map atom_content (drop (n + 1) p.atoms))) in
     let own = map (outcome_in c) (map (placed_at n) (map out_content atom.outs)) in
     let cut : map (outcome_in c) (outs_from n (map atom_content (drop n p.atoms))) ≡ own ++ rest =
     ap (λ (xs : List PAtom). map (outcome_in c) (outs_from n (map atom_content xs))) (cut_at p.atoms n atom below is)
     ∙ map-append (outcome_in c) (map (placed_at n) (map out_content atom.outs)) (outs_from (n + 1) (map atom_content (drop (n + 1) p.atoms))) in
-    let same : outcomes_at c n ≡ own = sym (outcomes_put p n atom atom.outs at refl) ∙ sym (ap (map (outcome_in c)) (map-map (placed_at n) out_content atom.outs) ∙ map-map (outcome_in c) (λ (out : POut). placed_at n (out_content out)) atom.outs) in
+    let same : map (λ out. outcome_in c (placed_at n (out_content out))) atom.outs ≡ own = sym (ap (map (outcome_in c)) (map-map (placed_at n) out_content atom.outs) ∙ map-map (outcome_in c) (λ (out : POut). placed_at n (out_content out)) atom.outs) in
     ap (λ (xs : List PlainOutcome). xs ++ rest) (put ∙ ap (λ (xs : List PlainOutcome). front ++ xs) same)
     ∙ (append_assoc front own rest ∙ (ap (λ (xs : List PlainOutcome). front ++ xs) (sym cut) ∙ so_far))
 
@@ -143,6 +128,41 @@ outs_left atoms i atom start count limit below is counted few =
     ap (λ (xs : List PAtom). length (outs_from i (map atom_content xs))) (cut_at atoms i atom below is) ∙ length-append own rest in
     let long : length own ≡ length atom.outs = length-map (map out_content atom.outs) (placed_at i) ∙ length-map atom.outs out_content in
     omega (arith, cut, long, counted, few)
+
+-- those made so far and an atom's outcomes are not too many
+pub few_made : (p : Parsed) (n count : ℕ) (atom : PAtom) (made : List OutcomePart) → n < length p.atoms → atom ≡ get_or p.atoms n atom → length (all_outs (content_of p)) ≤ 256 →
+    map (plain_outcome count) made ++ map (outcome_in (content_of p)) (outs_from n (map atom_content (drop n p.atoms))) ≡ map (outcome_in (content_of p)) (all_outs (content_of p)) → length made + length atom.outs ≤ 256
+few_made p n count atom made below is few so_far =
+    let c = content_of p in
+    let rest = outs_from n (map atom_content (drop n p.atoms)) in
+    let sum = length-append (map (plain_outcome count) made) (map (outcome_in c) rest) in
+    let front = length-map made (plain_outcome count) in
+    let behind = length-map rest (outcome_in c) in
+    let all = length-map (all_outs c) (outcome_in c) in
+    let long = ap length so_far in
+    let within : length made + length rest ≤ 256 = omega (arith, sum, front, behind, all, long, few) in
+    let left = outs_left p.atoms n atom (length made) (length atom.outs) 256 below is refl within in
+    omega (arith, left)
+
+-- as many more are made
+pub more_made : {A B C : Type 0} (f : A → B) (g : C → B) (old new : List A) (items : List C) → map f new ≡ map f old ++ map g items → length new ≡ length old + length items
+more_made f g old new items h =
+    let long = ap length h in
+    let sum = length-append (map f old) (map g items) in
+    let one = length-map new f in
+    let two = length-map old f in
+    let three = length-map items g in
+    omega (arith, long, sum, one, two, three)
+
+-- one more is made, of the next item
+pub one_more_made : {A B C : Type 0} (f : A → B) (g : C → B) (front old new : List A) (items : List C) (i : ℕ) (x : A) (item : C) → i < length items → item ≡ get_or items i item → f x ≡ g item →
+    new ≡ old ++ x ∷ [] → map f old ≡ map f front ++ map g (take i items) → map f new ≡ map f front ++ map g (take (i + 1) items)
+one_more_made {A} {B} {C} f g front old new items i x item below is made put so_far =
+    let more : map g (take (i + 1) items) ≡ map g (take i items) ++ g item ∷ [] =
+    ap (map g) (take_more items i item below) ∙ (map-append g (take i items) (get_or items i item ∷ []) ∙ ap (λ (y : C). map g (take i items) ++ g y ∷ []) (sym is)) in
+    ap (map f) put
+    ∙ (map-append f old (x ∷ []) ∙ (ap (λ (y : B). map f old ++ y ∷ []) made ∙ (ap (λ (ys : List B). ys ++ g item ∷ []) so_far
+    ∙ (append_assoc (map f front) (map g (take i items)) (g item ∷ []) ∙ ap (λ (ys : List B). map f front ++ ys) (sym more)))))
 
 -- one more case
 pub case_more : (c : Content) (cases : List PCase) (i : ℕ) (case : PCase) (made new : List Case) (tests : List Test) (sets : List Set) → i < length cases → case ≡ get_or cases i case →

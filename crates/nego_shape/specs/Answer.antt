@@ -1,9 +1,10 @@
 -- What is promised of an answer that is no diagram.
-use Rattle.std.specs.Prelude.{◌≡◌, ◌<◌, Some, ⊤}
+use Rattle.std.specs.Prelude.{◌≡◌, ◌<◌, Option, Some, ⊤}
 use Rattle.nego_data.specs.Data.{data_count}
 use Rattle.nego_data.specs.Sizes.{AreSizes}
 use Rattle.nego_reader.specs.declared.parsed.Parsed.{Parsed}
 use Rattle.nego_reader.specs.Content.{content_of}
+use Rattle.nego_shape.specs.declared.fault.ShapeFault.{ShapeFault}
 use Rattle.nego_shape.specs.declared.fault.ShapeKind.{ShapeKind}
 use Rattle.nego_shape.specs.declared.fault.ShapeKind.TheVariants as kinds
 use Rattle.nego_shape.specs.declared.fault.ShapeAnswer.{ShapeAnswer}
@@ -11,10 +12,14 @@ use Rattle.nego_shape.specs.declared.fault.ShapeAnswer.TheVariants as answers
 use Rattle.nego_shape.specs.Faults.{shape_fault}
 use Rattle.nego_shape.specs.Naming.{sizes_in}
 
--- the fault is the text's first; want of memory is free
+-- the fault is this one; want of memory is free
+abbrev pub Tells : ShapeAnswer → Option ShapeFault → Type 0
+Tells answers.Memory fault = ⊤
+Tells (answers.Off told) fault = fault ≡ Some told
+
+-- the fault is the text's first
 abbrev pub HasCause : ShapeAnswer → Parsed → Type 0
-HasCause answers.Memory p = ⊤
-HasCause (answers.Off fault) p = shape_fault p ≡ Some fault
+HasCause answer p = Tells answer (shape_fault p)
 
 -- joint data that a fault tells are joint data of the text's sizes
 abbrev pub AreJointIn : Parsed → ShapeKind → Type 0

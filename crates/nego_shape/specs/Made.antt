@@ -1,18 +1,12 @@
 -- The parts that are made of a text's content.
-use Rattle.std.specs.Prelude.{ℕ, ◌+◌, List, [], ◌∷◌, length, map, slice_get}
-use Rattle.std.specs.Option.{option_map_or}
+use Rattle.std.specs.Prelude.{ℕ, ◌+◌, List, [], ◌∷◌, length}
 use Rattle.nego_model.specs.declared.parts.AtomPart.{AtomPart}
-use Rattle.nego_model.specs.Diagram.{PlainOutcome}
 use Rattle.nego_reader.specs.Content.{Content, AtomContent, OutContent}
-use Rattle.nego_shape.specs.Naming.{PlacedOut, parties_in, outcome_in}
+use Rattle.nego_shape.specs.Naming.{PlacedOut, parties_in}
 
 -- an outcome of atom n
 abbrev pub placed_at : ℕ → OutContent → PlacedOut
 placed_at n out = record { atom = n; out = out }
-
--- the outcomes of atom n, as those of the diagram
-abbrev pub outcomes_at : Content → ℕ → List PlainOutcome
-outcomes_at c n = option_map_or (λ atom. map (outcome_in c) (map (placed_at n) atom.outs)) (slice_get c.atoms n) []
 
 -- an atom whose outcomes have the numbers from `start` on
 abbrev pub part_in : Content → ℕ → AtomContent → AtomPart

@@ -17,7 +17,6 @@ mod ordering;
 mod placing;
 mod shaping;
 mod sizing;
-mod totality;
 
 pub use answer::Order;
 pub use choices::determined;

@@ -1,29 +1,35 @@
-//! The diagram of a text that has no fault of shape. Names become numbers in the order of the text.
+//! The diagram of a text that has no fault of shape but that of cases which leave joint data uncovered. Names become
+//! numbers in the order of the text.
 
-ghost use Rattle.std.specs.Prelude.{◌≡◌, ◌<◌, ◌≤◌, ◌==◌, ◌++◌, length, map, take, slice_get, Some, All, Contains, IfOk, OnOk, IsTrue};
+ghost use Rattle.std.specs.Prelude.{◌≡◌, ◌+◌, ◌<◌, ◌≤◌, ◌==◌, ◌++◌, length, map, take, None, All, Contains, IfOk, IfErr, OnOk};
 ghost use Rattle.std.specs.List.{range_with_len, list_any};
 ghost use Rattle.nego_data.specs.Cases.{rows_of};
 ghost use Rattle.nego_model.specs.Parts.{plain_outcome};
-ghost use Rattle.nego_reader.specs.Content.{content_of, atom_content, out_content, next_content, case_content, test_content, set_content, right_content, term_content, texts};
-ghost use Rattle.nego_shape.specs.Naming.{place_of, agent_names, atom_names, sizes_in, all_outs, parties_in, parties_at, next_atoms, operand_in, test_in, term_in, set_in, case_in, cases_in, outcome_in, diagram_in};
-ghost use Rattle.nego_shape.specs.Shaped.{IsDeclared, IsAllCovered, IsFormed, HasNameWords};
-ghost use Rattle.nego_shape.specs.Made.{placed_at, outcomes_at, part_in, parts_from};
+ghost use Rattle.nego_reader.specs.Content.{content_of, atom_content, out_content, case_content, test_content, set_content, right_content, term_content, texts};
+ghost use Rattle.nego_shape.specs.Answer.{Tells};
+ghost use Rattle.nego_shape.specs.Faults.{not_total_at, not_total_among, not_total};
+ghost use Rattle.nego_shape.specs.Naming.{place_of, agent_names, sizes_in, all_outs, parties_in, parties_at, next_atoms, operand_in, test_in, term_in, set_in, case_in, cases_in, outcome_in, diagram_in};
+ghost use Rattle.nego_shape.specs.Shaped.{IsDeclared, IsFormed, HasNameWords};
+ghost use Rattle.nego_shape.specs.Made.{placed_at, part_in, parts_from};
 
+use crate::fault::{ShapeAnswer, ShapeFault, ShapeKind};
 use crate::numbering::Numbered;
 use crate::sizing::sizes_of;
-use nego_base::{AgentId, AgentSet, AtomId, AtomSet, Memory, Seq, Text, Word};
+use nego_base::{AgentId, AgentSet, AtomId, AtomSet, Memory, OutcomeId, Seq, Text, Word};
 use nego_data::cases::{Case, Operand, Set, Term, Test};
 use nego_data::{Sizes, Table, TableFault, table_of};
 use nego_model::{AtomPart, Diagram, OutcomePart, Parts};
 use nego_reader::{PAtom, PCase, PNext, POut, PRight, PSet, PTerm, PTest, Parsed};
 use std::alloc::Global;
 
-/// The diagram that the text is. It has no fault of shape, and its words are names, as those of a text that was read.
-pub(crate) fn diagram(alloc: Global, p: &Numbered) -> Result<Diagram, Memory>
+/// The diagram that the text is, or the fault of its first outcome whose cases leave joint data uncovered. The text has
+/// no other fault of shape, and its words are names, as those of a text that was read.
+pub(crate) fn diagram(alloc: Global, p: &Numbered) -> Result<Diagram, ShapeAnswer>
     requires shaped { IsFormed (content_of p.now) }
-    requires covered { All (λ placed. IsAllCovered (content_of p.now) placed.out) (all_outs (content_of p.now)) }
     requires named { HasNameWords (content_of p.now) }
-    ensures { IfOk result (λ d. d ≡ diagram_in (content_of p.now)) }
+    ensures total { IfOk result (λ _. not_total p.now ≡ None) }
+    ensures content { IfOk result (λ d. d ≡ diagram_in (content_of p.now)) }
+    ensures err { IfErr result (λ e. Tells e (not_total p.now)) }
 {
     let text = p.text();
     let agents = names_of(alloc, text)?;
@@ -80,60 +86,70 @@ fn atom_part(alloc: Global, p: &Numbered, atom: &PAtom, start: u32) -> Result<At
     })
 }
 
-/// The outcomes of all atoms.
-fn outcomes_of(alloc: Global, p: &Numbered, sizes: &Sizes) -> Result<Seq<OutcomePart>, Memory>
+/// The outcomes of all atoms, or the fault of the first whose cases leave joint data uncovered.
+fn outcomes_of(alloc: Global, p: &Numbered, sizes: &Sizes) -> Result<Seq<OutcomePart>, ShapeAnswer>
     requires shaped { IsFormed (content_of p.now) }
-    requires covered { All (λ placed. IsAllCovered (content_of p.now) placed.out) (all_outs (content_of p.now)) }
     requires sizes { sizes.now ≡ sizes_in (content_of p.now) }
-    ensures { IfOk result (λ parts. map (plain_outcome (length p.now.agents)) parts ≡ map (outcome_in (content_of p.now)) (all_outs (content_of p.now))) }
+    ensures parts { IfOk result (λ parts. map (plain_outcome (length p.now.agents)) parts ≡ map (outcome_in (content_of p.now)) (all_outs (content_of p.now))) }
+    ensures total { IfOk result (λ _. not_total p.now ≡ None) }
+    ensures err { IfErr result (λ e. Tells e (not_total p.now)) }
 {
+    let atoms = p.text().atoms.as_slice();
     let mut outcomes = Seq::new(alloc);
-    for n in 0..p.text().atoms.len() {
-        add_outcomes(alloc, p, sizes, n, &mut outcomes)?;
+    for (n, atom) in atoms.iter().enumerate() {
+        add_outcomes(alloc, p, sizes, n, atom.outs.as_slice(), &mut outcomes)?;
     }
     Ok(outcomes)
 }
 
-/// Puts the outcomes of the atom at the end.
+/// Puts the outcomes of atom n behind those of the atoms before, or answers the fault of the first whose cases leave
+/// joint data uncovered.
 fn add_outcomes(
     alloc: Global,
     p: &Numbered,
     sizes: &Sizes,
     n: usize,
+    outs: &[POut],
     outcomes: &mut Seq<OutcomePart>,
-) -> Result<(), Memory>
+) -> Result<(), ShapeAnswer>
     requires shaped { IsFormed (content_of p.now) }
-    requires covered { All (λ placed. IsAllCovered (content_of p.now) placed.out) (all_outs (content_of p.now)) }
     requires sizes { sizes.now ≡ sizes_in (content_of p.now) }
     requires atom { n < length p.now.atoms }
-    ensures { OnOk result (map (plain_outcome (length p.now.agents)) outcomes.new ≡ map (plain_outcome (length p.now.agents)) outcomes.old ++ outcomes_at (content_of p.now) n) }
+    requires outs { All (λ out. Contains (all_outs (content_of p.now)) (placed_at n (out_content out))) outs.now }
+    requires few { length outcomes.old + length outs.now ≤ 256 }
+    ensures parts { OnOk result (map (plain_outcome (length p.now.agents)) outcomes.new ≡ map (plain_outcome (length p.now.agents)) outcomes.old ++ map (λ out. outcome_in (content_of p.now) (placed_at n (out_content out))) outs.now) }
+    ensures total { OnOk result (not_total_among p.now (length outcomes.old) outs.now ≡ None) }
+    ensures err { IfErr result (λ e. Tells e (not_total_among p.now (length outcomes.old) outs.now)) }
 {
-    for out in p.text().atoms[n].outs.iter() {
-        outcomes.push(outcome_part(alloc, p, sizes, n, out)?)?;
+    for out in outs {
+        let o = OutcomeId(outcomes.len() as u32);
+        outcomes.push(outcome_part(alloc, p, sizes, n, o, out)?)?;
     }
     Ok(())
 }
 
-/// The outcome, as one of the atom.
+/// Outcome o, as one of atom n, or its fault where its cases leave joint data uncovered.
 fn outcome_part(
     alloc: Global,
     p: &Numbered,
     sizes: &Sizes,
     n: usize,
+    o: OutcomeId,
     out: &POut,
-) -> Result<OutcomePart, Memory>
+) -> Result<OutcomePart, ShapeAnswer>
     requires shaped { IsFormed (content_of p.now) }
-    requires covered { All (λ placed. IsAllCovered (content_of p.now) placed.out) (all_outs (content_of p.now)) }
     requires sizes { sizes.now ≡ sizes_in (content_of p.now) }
     requires atom { n < length p.now.atoms }
     requires out { Contains (all_outs (content_of p.now)) (placed_at n (out_content out.now)) }
-    ensures { IfOk result (λ part. plain_outcome (length p.now.agents) part ≡ outcome_in (content_of p.now) (placed_at n (out_content out.now))) }
+    ensures part { IfOk result (λ part. plain_outcome (length p.now.agents) part ≡ outcome_in (content_of p.now) (placed_at n (out_content out.now))) }
+    ensures total { IfOk result (λ _. not_total_at p.now o.0 out.now ≡ None) }
+    ensures err { IfErr result (λ e. Tells e (not_total_at p.now o.0 out.now)) }
 {
     Ok(OutcomePart {
         name: Text::copy(alloc, out.name.text.as_slice())?,
         atom: AtomId(n as u32),
         nexts: next_sets(p, n, out),
-        table: table(alloc, p, sizes, n, out)?,
+        table: table(alloc, p, sizes, n, o, out)?,
     })
 }
 
@@ -174,7 +190,7 @@ fn stands(p: &Numbered, next: &PNext, a: u32) -> bool
 }
 
 /// The parties of the atom.
-pub(crate) fn parties_of(p: &Numbered, n: usize) -> AgentSet
+fn parties_of(p: &Numbered, n: usize) -> AgentSet
     requires shaped { IsFormed (content_of p.now) }
     requires atom { n < length p.now.atoms }
     ensures { result ≡ parties_at (content_of p.now) n }
@@ -195,26 +211,37 @@ fn party_set(p: &Numbered, names: &[Word]) -> AgentSet
     set
 }
 
-/// The table of the outcome's cases.
-fn table(alloc: Global, p: &Numbered, sizes: &Sizes, n: usize, out: &POut) -> Result<Table, Memory>
+/// The table of the cases of outcome o, or its fault where they leave joint data uncovered.
+fn table(
+    alloc: Global,
+    p: &Numbered,
+    sizes: &Sizes,
+    n: usize,
+    o: OutcomeId,
+    out: &POut,
+) -> Result<Table, ShapeAnswer>
     requires shaped { IsFormed (content_of p.now) }
-    requires covered { All (λ placed. IsAllCovered (content_of p.now) placed.out) (all_outs (content_of p.now)) }
     requires sizes { sizes.now ≡ sizes_in (content_of p.now) }
     requires atom { n < length p.now.atoms }
     requires out { Contains (all_outs (content_of p.now)) (placed_at n (out_content out.now)) }
-    ensures { IfOk result (λ table. table ≡ rows_of (sizes_in (content_of p.now)) (cases_in (content_of p.now) (out_content out.now))) }
+    ensures rows { IfOk result (λ table. table ≡ rows_of (sizes_in (content_of p.now)) (cases_in (content_of p.now) (out_content out.now))) }
+    ensures total { IfOk result (λ _. not_total_at p.now o.0 out.now ≡ None) }
+    ensures err { IfErr result (λ e. Tells e (not_total_at p.now o.0 out.now)) }
 {
     let parties = parties_of(p, n);
     let cases = cases_of(alloc, p, out.cases.as_slice())?;
     match table_of(alloc, sizes, parties, cases.as_slice()) {
         Ok(table) => Ok(table),
-        Err(TableFault::Memory) => Err(Memory),
-        Err(TableFault::NotTotal(_)) => unreachable!(),
+        Err(TableFault::Memory) => Err(ShapeAnswer::Memory),
+        Err(TableFault::NotTotal(d)) => Err(ShapeAnswer::Off(ShapeFault {
+            line: out.name.line,
+            kind: ShapeKind::NotTotal(o, d),
+        })),
     }
 }
 
 /// The cases, with agents' numbers.
-pub(crate) fn cases_of(alloc: Global, p: &Numbered, cases: &[PCase]) -> Result<Seq<Case>, Memory>
+fn cases_of(alloc: Global, p: &Numbered, cases: &[PCase]) -> Result<Seq<Case>, Memory>
     requires { IsFormed (content_of p.now) }
     ensures { IfOk result (λ made. made ≡ map (λ case. case_in (content_of p.now) (case_content case)) cases.now) }
 {

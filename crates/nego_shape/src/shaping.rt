@@ -12,7 +12,6 @@ use crate::fault::ShapeAnswer;
 use crate::finding::form_fault;
 use crate::making::diagram;
 use crate::numbering::Numbered;
-use crate::totality::not_total;
 use nego_model::Diagram;
 use nego_reader::Parsed;
 use std::alloc::Global;
@@ -31,8 +30,5 @@ pub fn shape(alloc: Global, p: &Parsed) -> Result<Diagram, ShapeAnswer>
         return Err(ShapeAnswer::Off(fault));
     }
     let numbered = Numbered::new(alloc, p)?;
-    if let Some(fault) = not_total(alloc, &numbered)? {
-        return Err(ShapeAnswer::Off(fault));
-    }
-    Ok(diagram(alloc, &numbered)?)
+    diagram(alloc, &numbered)
 }

@@ -1,27 +1,53 @@
-use Rattle.std.proofs.Common.{◌≡◌, ◌<◌, List, ◌++◌, length, map, take, Some, slice_get, sym, ap, subst, ◌∙◌}
-use Rattle.std.proofs.lemmas.List.{take_all}
-use Rattle.nego_model.specs.Diagram.{PlainOutcome}
+use Rattle.std.proofs.Common.{◌≡◌, ◌+◌, length, None, sym, ap, subst, ◌∙◌, arith, length-append}
+use Rattle.std.specs.List.{Contains}
+use Rattle.std.proofs.lemmas.Result.{err_from_is_err_and}
+use Rattle.nego_model.specs.declared.parts.OutcomePart.{OutcomePart}
 use Rattle.nego_model.specs.Parts.{plain_outcome}
-use Rattle.nego_reader.specs.declared.parsed.Parsed.{Parsed}
+use Rattle.nego_reader.specs.declared.parsed.POut.{POut}
 use Rattle.nego_reader.specs.Content.{content_of, out_content}
-use Rattle.nego_shape.specs.Naming.{outcome_in}
+use Rattle.nego_shape.specs.Answer.{Tells}
+use Rattle.nego_shape.specs.Faults.{not_total_at, not_total_among}
+use Rattle.nego_shape.specs.Naming.{all_outs, outcome_in}
 use Rattle.nego_shape.specs.Made.{placed_at}
-use Rattle.nego_shape.proofs.PartsMade.{out_is_placed, outcomes_put}
+use Rattle.nego_shape.proofs.FirstLaws.{numbered_goes_on, numbered_done}
+use Rattle.nego_shape.proofs.PartsMade.{one_more_made}
+use Rattle.nego_shape.proofs.TotalLaws.{told_numbered}
 use Rattle.nego_shape.proofs.making.add_outcomes.Goals as goal
-
-pub index-requires : goal.index-requires
-index-requires c = subst (λ (p : Parsed). c.args.n < length p.atoms) (sym c.text.ensures) c.requires.atom
 
 pub outcome_part-requires-clause-out : goal.outcome_part-requires-clause-out
 outcome_part-requires-clause-out c =
-    let there : slice_get c.args.p.now.atoms c.args.n ≡ Some c.index.result.now = subst (λ (p : Parsed). slice_get p.atoms c.args.n ≡ Some c.index.result.now) c.text.ensures c.index.ensures in
-    out_is_placed c.args.p.now c.args.n c.index.result.now c.deref-out-items.result.now c.loop-out.out-index c.out-item.result there c.deref-out-items.ensures c.loop-out-test.true c.out-item.is
+    subst (λ out. Contains (all_outs (content_of c.args.p.now)) (placed_at c.args.n (out_content out))) (sym c.out-item.is) (c.requires.outs c.loop-out.out-index c.out-item.result c.loop-out-test.true)
 
-pub returns : goal.returns
-returns c =
-    let c0 = content_of c.args.p.now in
-    let there : slice_get c.args.p.now.atoms c.args.n ≡ Some c.index.result.now = subst (λ (p : Parsed). slice_get p.atoms c.args.n ≡ Some c.index.result.now) c.text.ensures c.index.ensures in
-    let all : take c.loop-out.out-index c.deref-out-items.result.now ≡ c.deref-out-items.result.now = take_all c.loop-out.out-index c.deref-out-items.result.now c.loop-out-test.false in
-    c.loop-out.invariant
-    ∙ ap (λ (xs : List PlainOutcome). map (plain_outcome (length c.args.p.now.agents)) c.args.outcomes.now ++ xs)
-    (ap (map (λ out. outcome_in c0 (placed_at c.args.n (out_content out)))) all ∙ outcomes_put c.args.p.now c.args.n c.index.result.now c.deref-out-items.result.now there c.deref-out-items.ensures)
+pub returns-in_err-outcome_part-clause-err : goal.returns-in_err-outcome_part-clause-err
+returns-in_err-outcome_part-clause-err c =
+    let p = c.args.p.now in
+    let base = length c.args.outcomes.now in
+    let i = c.loop-out.out-index in
+    let e = c.in_err-outcome_part.field-0.0 in
+    let told = err_from_is_err_and c.from_residual.result c.from_residual.ensures.1 in
+    rw (told.1, told.2)
+    (told_numbered (λ k out. not_total_at p (base + k) out) e c.args.outs.now i i c.out-item.result (not_total_among p base c.args.outs.now) c.loop-out-test.true c.out-item.is
+    (subst (λ o. Tells e (not_total_at p o c.out-item.result)) (c.len.ensures ∙ c.loop-out.invariant.count) c.in_err-outcome_part.ensures.err) c.loop-out.invariant.total)
+
+pub loop-out-preserved : goal.loop-out-preserved
+loop-out-preserved c =
+    let p = c.args.p.now in
+    let base = length c.args.outcomes.now in
+    let i = c.loop-out.out-index in
+    let put = c.in_ok-push.ensures.ok in
+    let long = ap length put in
+    let before = c.loop-out.invariant.count in
+    record {
+      parts = one_more_made (plain_outcome (length p.agents)) (λ (out : POut). outcome_in (content_of p) (placed_at c.args.n (out_content out))) c.args.outcomes.now c.loop-out.outcomes c.push.new.self c.args.outs.now i _ c.out-item.result
+          c.loop-out-test.true c.out-item.is c.in_ok-outcome_part.ensures.part put c.loop-out.invariant.parts;
+      count = omega (arith, long, before, length-append {A = OutcomePart});
+      total = numbered_goes_on (λ k out. not_total_at p (base + k) out) c.args.outs.now i i c.out-item.result (not_total_among p base c.args.outs.now) c.loop-out-test.true c.out-item.is
+          (subst (λ o. not_total_at p o c.out-item.result ≡ None) (c.len.ensures ∙ before) c.in_ok-outcome_part.ensures.total) c.loop-out.invariant.total;
+    }
+
+pub returns-clause-total : goal.returns-clause-total
+returns-clause-total c =
+    let p = c.args.p.now in
+    let base = length c.args.outcomes.now in
+    let i = c.loop-out.out-index in
+    sym (numbered_done (λ k out. not_total_at p (base + k) out) c.args.outs.now i i (not_total_among p base c.args.outs.now) c.loop-out-test.false c.loop-out.invariant.total)

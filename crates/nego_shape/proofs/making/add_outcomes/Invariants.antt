@@ -1,11 +1,16 @@
-use Rattle.std.proofs.Common.{◌≡◌, ◌++◌, length, map, take}
+use Rattle.std.proofs.Common.{◌≡◌, ◌+◌, ◌++◌, length, map, take, drop}
 use Rattle.nego_model.specs.Parts.{plain_outcome}
 use Rattle.nego_reader.specs.Content.{content_of, out_content}
+use Rattle.nego_shape.specs.Faults.{not_total_at, not_total_among}
+use Rattle.nego_shape.specs.Firsts.{first_numbered}
 use Rattle.nego_shape.specs.Naming.{outcome_in}
 use Rattle.nego_shape.specs.Made.{placed_at}
 use Rattle.nego_shape.proofs.making.add_outcomes.Given as goal
 
 abbrev pub invariant-loop-out : goal.invariant-loop-out
-invariant-loop-out l =
-    map (plain_outcome (length l.p.agents)) l.outcomes
-    ≡ map (plain_outcome (length l.p.agents)) l.initial.outcomes ++ map (λ out. outcome_in (content_of l.p) (placed_at l.n (out_content out))) (take l.out-index l.out-items)
+invariant-loop-out l = record {
+  parts : map (plain_outcome (length l.p.agents)) l.outcomes
+      ≡ map (plain_outcome (length l.p.agents)) l.initial.outcomes ++ map (λ out. outcome_in (content_of l.p) (placed_at l.n (out_content out))) (take l.out-index l.outs);
+  count : length l.outcomes ≡ length l.initial.outcomes + l.out-index;
+  total : first_numbered (λ i out. not_total_at l.p (length l.initial.outcomes + i) out) l.out-index (drop l.out-index l.outs) ≡ not_total_among l.p (length l.initial.outcomes) l.outs;
+}

@@ -1,14 +1,72 @@
-use Rattle.std.proofs.Common.{length, map, ap, ◌∙◌, arith}
+use Rattle.std.proofs.Common.{◌≡◌, ◌+◌, ◌<◌, ◌≤◌, ◌++◌, List, length, map, drop, get_or, sym, ap, subst, ◌∙◌}
+use Rattle.std.specs.List.{All, Contains}
+use Rattle.std.proofs.lemmas.Result.{err_from_is_err_and}
 use Rattle.nego_model.specs.Parts.{plain_outcome}
 use Rattle.nego_reader.specs.declared.parsed.Parsed.{Parsed}
-use Rattle.nego_reader.specs.Content.{content_of}
+use Rattle.nego_reader.specs.declared.parsed.PAtom.{PAtom}
+use Rattle.nego_reader.specs.declared.parsed.POut.{POut}
+use Rattle.nego_reader.specs.Content.{content_of, out_content}
+use Rattle.nego_shape.specs.Answer.{Tells}
+use Rattle.nego_shape.specs.Faults.{not_total_among, not_total_from, not_total}
 use Rattle.nego_shape.specs.Naming.{all_outs, outcome_in}
-use Rattle.nego_shape.proofs.PartsMade.{outs_cut}
+use Rattle.nego_shape.specs.Made.{placed_at}
+use Rattle.nego_shape.proofs.PartsMade.{outs_are_placed, outs_cut, few_made, more_made}
+use Rattle.nego_shape.proofs.TotalLaws.{partial_told, partial_goes_on, partial_done}
 use Rattle.nego_shape.proofs.making.outcomes_of.Goals as goal
+
+pub add_outcomes-requires-clause-outs : goal.add_outcomes-requires-clause-outs
+add_outcomes-requires-clause-outs c =
+    let p = c.args.p.now in
+    let same = c.as_slice-atoms.ensures ∙ ap (λ (q : Parsed). q.atoms) c.text.ensures in
+    let below : c.loop-n.n < length p.atoms = subst (λ (atoms : List PAtom). c.loop-n.n < length atoms) same c.loop-n-test.true in
+    let is : c.index-atoms-n.result ≡ get_or p.atoms c.loop-n.n c.index-atoms-n.result = subst (λ (atoms : List PAtom). c.index-atoms-n.result ≡ get_or atoms c.loop-n.n c.index-atoms-n.result) same c.index-atoms-n.is in
+    subst (All (λ (out : POut). Contains (all_outs (content_of p)) (placed_at c.loop-n.n (out_content out)))) (sym c.as_slice.ensures) (outs_are_placed p c.loop-n.n c.index-atoms-n.result below is)
+
+pub add_outcomes-requires-clause-few : goal.add_outcomes-requires-clause-few
+add_outcomes-requires-clause-few c =
+    let p = c.args.p.now in
+    let n = c.loop-n.n in
+    let atom = c.index-atoms-n.result in
+    let same = c.as_slice-atoms.ensures ∙ ap (λ (q : Parsed). q.atoms) c.text.ensures in
+    let below : n < length p.atoms = subst (λ (atoms : List PAtom). n < length atoms) same c.loop-n-test.true in
+    let is : atom ≡ get_or p.atoms n atom = subst (λ (atoms : List PAtom). atom ≡ get_or atoms n atom) same c.index-atoms-n.is in
+    subst (λ (outs : List POut). length c.loop-n.outcomes + length outs ≤ 256) (sym c.as_slice.ensures)
+    (few_made p n (length p.agents) atom c.loop-n.outcomes below is c.requires.shaped.few_outcomes c.loop-n.invariant.parts)
 
 pub loop-n-preserved : goal.loop-n-preserved
 loop-n-preserved c =
-    let test = c.loop-n-test.true in
-    let end = c.len-n-end.ensures ∙ ap (λ (p : Parsed). length p.atoms) c.text.ensures in
-    outs_cut c.args.p.now c.loop-n.n (map (plain_outcome (length c.args.p.now.agents)) c.loop-n.outcomes) (map (plain_outcome (length c.args.p.now.agents)) c.add_outcomes.new.outcomes)
-    (map (outcome_in (content_of c.args.p.now)) (all_outs (content_of c.args.p.now))) (omega (arith, test, end)) c.in_ok-add_outcomes.ensures c.loop-n.invariant
+    let p = c.args.p.now in
+    let n = c.loop-n.n in
+    let atom = c.index-atoms-n.result in
+    let same = c.as_slice-atoms.ensures ∙ ap (λ (q : Parsed). q.atoms) c.text.ensures in
+    let below : n < length p.atoms = subst (λ (atoms : List PAtom). n < length atoms) same c.loop-n-test.true in
+    let is : atom ≡ get_or p.atoms n atom = subst (λ (atoms : List PAtom). atom ≡ get_or atoms n atom) same c.index-atoms-n.is in
+    let plain = map (plain_outcome (length p.agents)) in
+    let put : plain c.add_outcomes.new.outcomes ≡ plain c.loop-n.outcomes ++ map (λ out. outcome_in (content_of p) (placed_at n (out_content out))) atom.outs =
+    c.in_ok-add_outcomes.ensures.parts ∙ ap (λ (outs : List POut). plain c.loop-n.outcomes ++ map (λ out. outcome_in (content_of p) (placed_at n (out_content out))) outs) c.as_slice.ensures in
+    let more = more_made (plain_outcome (length p.agents)) (λ (out : POut). outcome_in (content_of p) (placed_at n (out_content out))) c.loop-n.outcomes c.add_outcomes.new.outcomes atom.outs put in
+    record {
+      parts = outs_cut p n atom (plain c.loop-n.outcomes) (plain c.add_outcomes.new.outcomes) (map (outcome_in (content_of p)) (all_outs (content_of p))) below is put c.loop-n.invariant.parts;
+      total = ap (λ k. not_total_from p k (drop (n + 1) p.atoms)) more
+          ∙ partial_goes_on p p.atoms n (length c.loop-n.outcomes) atom (not_total p) below is (sym (ap (not_total_among p (length c.loop-n.outcomes)) c.as_slice.ensures) ∙ c.in_ok-add_outcomes.ensures.total) c.loop-n.invariant.total;
+    }
+
+pub returns-in_err-add_outcomes-clause-err : goal.returns-in_err-add_outcomes-clause-err
+returns-in_err-add_outcomes-clause-err c =
+    let p = c.args.p.now in
+    let n = c.loop-n.n in
+    let atom = c.index-atoms-n.result in
+    let o = length c.loop-n.outcomes in
+    let e = c.in_err-add_outcomes.field-0.0 in
+    let same = c.as_slice-atoms.ensures ∙ ap (λ (q : Parsed). q.atoms) c.text.ensures in
+    let below : n < length p.atoms = subst (λ (atoms : List PAtom). n < length atoms) same c.loop-n-test.true in
+    let is : atom ≡ get_or p.atoms n atom = subst (λ (atoms : List PAtom). atom ≡ get_or atoms n atom) same c.index-atoms-n.is in
+    let told = err_from_is_err_and c.from_residual.result c.from_residual.ensures.1 in
+    rw (told.1, told.2) (partial_told p e p.atoms n o atom (not_total p) below is (subst (λ (outs : List POut). Tells e (not_total_among p o outs)) c.as_slice.ensures c.in_err-add_outcomes.ensures.err) c.loop-n.invariant.total)
+
+pub returns-clause-total : goal.returns-clause-total
+returns-clause-total c =
+    let p = c.args.p.now in
+    let n = c.loop-n.n in
+    let same = c.as_slice-atoms.ensures ∙ ap (λ (q : Parsed). q.atoms) c.text.ensures in
+    partial_done p p.atoms n (length c.loop-n.outcomes) (not_total p) (subst (λ (atoms : List PAtom). length atoms ≤ n) same c.loop-n-test.false) c.loop-n.invariant.total

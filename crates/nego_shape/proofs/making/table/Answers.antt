@@ -1,18 +1,21 @@
-use Rattle.std.proofs.Common.{◌≡◌, ◌<◌, List, length, map, sym, ap, subst, ◌∙◌}
+use Rattle.std.proofs.Common.{◌≡◌, ◌<◌, List, length, map, Some, None, sym, ap, subst, ◌∙◌}
 use Rattle.std.specs.List.{All}
+use Rattle.std.specs.Option.{option_map}
 use Rattle.std.proofs.lemmas.List.{length-map}
 use Rattle.std.proofs.lemmas.List.Elements.{All-contains}
 use Rattle.nego_data.specs.declared.cases.Case.{Case}
 use Rattle.nego_data.specs.Cases.{rows_of}
-use Rattle.nego_data.specs.CaseForm.{NamesOnly, AssignsOnce, AssignsBelow, IsCovered, IsFirstUncovered, HasTableFault}
-use Rattle.nego_data.specs.Data.{data_count}
+use Rattle.nego_data.specs.CaseForm.{NamesOnly, AssignsOnce, AssignsBelow, IsFirstUncovered, HasTableFault}
 use Rattle.nego_reader.specs.Content.{content_of, out_content, case_content}
+use Rattle.nego_shape.specs.declared.fault.ShapeKind.TheVariants as kinds
+use Rattle.nego_shape.specs.Faults.{fault_on, first_uncovered}
 use Rattle.nego_shape.specs.Naming.{PlacedOut, agent_names, sizes_in, all_outs, parties_at, cases_in, case_in}
-use Rattle.nego_shape.specs.Shaped.{IsAllCovered, IsDeclared, IsNamedParty, AreDifferent, case_names, assigned_names}
+use Rattle.nego_shape.specs.Shaped.{IsDeclared, IsNamedParty, AreDifferent, case_names, assigned_names}
 use Rattle.nego_shape.specs.Made.{placed_at}
 use Rattle.nego_shape.proofs.ShapedCases.{cases_in-named, cases_in-once}
 use Rattle.nego_shape.proofs.Places.{parties_at-below}
 use Rattle.nego_shape.proofs.PartsMade.{cases_read}
+use Rattle.nego_shape.proofs.SoundShape.{first_is, first_is_none}
 use Rattle.nego_shape.proofs.making.table.Goals as goal
 
 pub table_of-requires-clause-parties : goal.table_of-requires-clause-parties
@@ -47,22 +50,29 @@ table_of-requires-clause-fits c =
     subst (λ sizes. All (AssignsBelow sizes) c.as_slice-2.result.now) (sym c.requires.sizes) (subst (λ (cs : List Case). All (AssignsBelow (sizes_in c0)) cs) (sym cases)
     (All-contains (λ (placed : PlacedOut). All (AssignsBelow (sizes_in c0)) (cases_in c0 placed.out)) (all_outs c0) (placed_at c.args.n (out_content c.args.out.now)) c.requires.shaped.below c.requires.out))
 
-pub returns-in-Ok : goal.returns-in-Ok
-returns-in-Ok c =
+pub returns-in-Ok-clause-rows : goal.returns-in-Ok-clause-rows
+returns-in-Ok-clause-rows c =
     let c0 = content_of c.args.p.now in
     let cases : c.as_slice-2.result.now ≡ cases_in c0 (out_content c.args.out.now) =
     c.as_slice-2.ensures ∙ (c.in_ok-cases.ensures ∙ (ap (map (λ case. case_in c0 (case_content case))) c.as_slice.ensures ∙ cases_read c0 c.args.out.now.cases)) in
     subst (λ sizes. c.in-Ok.table ≡ rows_of sizes (cases_in c0 (out_content c.args.out.now))) c.requires.sizes
     (subst (λ (cs : List Case). c.in-Ok.table ≡ rows_of c.args.sizes.now cs) cases c.in-Ok.ensures.rows)
 
-pub unreachable-requires : goal.unreachable-requires
-unreachable-requires c =
+pub returns-in-Ok-clause-total : goal.returns-in-Ok-clause-total
+returns-in-Ok-clause-total c =
     let c0 = content_of c.args.p.now in
     let cases : c.as_slice-2.result.now ≡ cases_in c0 (out_content c.args.out.now) =
     c.as_slice-2.ensures ∙ (c.in_ok-cases.ensures ∙ (ap (map (λ case. case_in c0 (case_content case))) c.as_slice.ensures ∙ cases_read c0 c.args.out.now.cases)) in
-    let d = c.in-Err-NotTotal.field-0-0 in
+    ap (option_map (λ d. fault_on c.args.out.now.name.line (kinds.NotTotal c.args.o d)))
+    (subst (λ (cs : List Case). first_uncovered (sizes_in c0) cs ≡ None) cases (subst (λ sizes. first_uncovered sizes c.as_slice-2.result.now ≡ None) c.requires.sizes (first_is_none c.args.sizes.now c.as_slice-2.result.now c.in-Ok.ensures.covered)))
+
+pub returns-clause-err : goal.returns-clause-err
+returns-clause-err c =
+    let c0 = content_of c.args.p.now in
+    let cases : c.as_slice-2.result.now ≡ cases_in c0 (out_content c.args.out.now) =
+    c.as_slice-2.ensures ∙ (c.in_ok-cases.ensures ∙ (ap (map (λ case. case_in c0 (case_content case))) c.as_slice.ensures ∙ cases_read c0 c.args.out.now.cases)) in
+    let d = c.in-Err-NotTotal.d in
     let fault : IsFirstUncovered c.args.sizes.now c.as_slice-2.result.now d =
     subst (HasTableFault c.args.sizes.now c.as_slice-2.result.now) c.in-Err-NotTotal.field-0-is c.in-Err-NotTotal.ensures.err in
-    let all = All-contains (λ (placed : PlacedOut). IsAllCovered c0 placed.out) (all_outs c0) (placed_at c.args.n (out_content c.args.out.now)) c.requires.covered c.requires.out in
-    fault.uncovered (subst (λ sizes. IsCovered sizes c.as_slice-2.result.now d) (sym c.requires.sizes) (subst (λ (cs : List Case). IsCovered (sizes_in c0) cs d) (sym cases)
-    (all d (subst (λ sizes. d < data_count sizes) c.requires.sizes fault.below))))
+    ap (option_map (λ e. fault_on c.args.out.now.name.line (kinds.NotTotal c.args.o e)))
+    (subst (λ (cs : List Case). first_uncovered (sizes_in c0) cs ≡ Some d) cases (subst (λ sizes. first_uncovered sizes c.as_slice-2.result.now ≡ Some d) c.requires.sizes (first_is c.args.sizes.now c.as_slice-2.result.now d fault)))
