@@ -1,6 +1,6 @@
 -- A text whose content has the shape of a diagram has no fault of shape.
-use Rattle.std.proofs.Common.{◌≡◌, ℕ, ◌+◌, List, [], ◌∷◌, length, None, refl}
-use Rattle.std.proofs.lemmas.Option.{slice_get-get_or}
+use Rattle.std.proofs.Common.{◌≡◌, ℕ, ◌+◌, List, [], ◌∷◌, length, None, refl, sym, ◌∙◌}
+use Rattle.std.proofs.lemmas.Option.{none-some, slice_get-get_or}
 use Rattle.std.proofs.lemmas.List.Elements.{All-head, All-tail}
 use Rattle.std.specs.List.{All}
 use Rattle.std.specs.Prelude.{get_or}
@@ -10,6 +10,9 @@ use Rattle.nego_reader.specs.declared.parsed.POut.{POut}
 use Rattle.nego_reader.specs.Content.{OutContent, content_of, out_content}
 use Rattle.nego_shape.specs.declared.checks.outcomes.Rule.TheVariants as rules
 use Rattle.nego_shape.specs.declared.fault.ShapeKind.TheVariants as kinds
+use Rattle.nego_shape.specs.declared.fault.ShapeAnswer.{ShapeAnswer}
+use Rattle.nego_shape.specs.declared.fault.ShapeAnswer.TheVariants as answers
+use Rattle.nego_shape.specs.Answer.{HasCause, LacksShape}
 use Rattle.nego_shape.specs.Naming.{sizes_in, cases_in}
 use Rattle.nego_shape.specs.Shaped.{IsFormed, IsShaped, IsAllCovered}
 use Rattle.nego_shape.specs.Faults.{fault_on, no_agent, too_many, twice, twice_in, unknown, unknown_in, no_party, no_outcome, lacks, party_fault, next_fault, broken, size_fault, inner_fault, form_fault, first_uncovered, not_total_at, not_total_among, not_total_from, not_total, shape_fault}
@@ -58,3 +61,8 @@ pub faultless_shape : (p : Parsed) → IsShaped (content_of p) → shape_fault p
 faultless_shape p h =
     both_none (form_fault p) (not_total p) (none_of_form p h.form)
     (none_partial p 0 p.atoms (λ k d l. each_placed (λ n (out : OutContent). IsAllCovered (content_of p) out) p h.covered k (get_or p.atoms k d) (slice_get-get_or p.atoms k d l)))
+
+-- so a text that has a fault hasn't the shape
+pub lacks_shape : (p : Parsed) (e : ShapeAnswer) → HasCause e p → LacksShape e p
+lacks_shape p answers.Memory h = tt
+lacks_shape p (answers.Off fault) h = λ shaped. none-some fault (sym (faultless_shape p shaped) ∙ h)

@@ -3,10 +3,10 @@
 ghost use Rattle.std.specs.Prelude.{◌≡◌, None, IfOk, IfErr};
 ghost use Rattle.nego_model.specs.Diagram.{IsDiagram};
 ghost use Rattle.nego_reader.specs.Content.{content_of};
-ghost use Rattle.nego_shape.specs.Answer.{HasCause, HasJoint};
+ghost use Rattle.nego_shape.specs.Answer.{HasCause, LacksShape, HasJoint};
 ghost use Rattle.nego_shape.specs.Faults.{shape_fault};
 ghost use Rattle.nego_shape.specs.Naming.{diagram_in};
-ghost use Rattle.nego_shape.specs.Shaped.{HasNameWords};
+ghost use Rattle.nego_shape.specs.Shaped.{IsShaped, HasNameWords};
 
 use crate::fault::ShapeAnswer;
 use crate::finding::form_fault;
@@ -21,9 +21,11 @@ use std::alloc::Global;
 pub fn shape(alloc: Global, p: &Parsed) -> Result<Diagram, ShapeAnswer>
     requires { HasNameWords (content_of p.now) }
     ensures ok { IfOk result (λ _. shape_fault p.now ≡ None) }
+    ensures shaped { IfOk result (λ _. IsShaped (content_of p.now)) }
     ensures content { IfOk result (λ d. d ≡ diagram_in (content_of p.now)) }
     ensures diagram { IfOk result IsDiagram }
     ensures err { IfErr result (λ e. HasCause e p.now) }
+    ensures misshapen { IfErr result (λ e. LacksShape e p.now) }
     ensures joint { IfErr result (λ e. HasJoint e p.now) }
 {
     if let Some(fault) = form_fault(alloc, p)? {

@@ -4,13 +4,14 @@ use Rattle.std.proofs.lemmas.Result.{IfOk-weaker, IfErr-weaker}
 use Rattle.nego_shape.specs.declared.fault.ShapeAnswer.TheVariants.{Off}
 use Rattle.nego_reader.specs.declared.parsed.Parsed.{Parsed}
 use Rattle.nego_reader.specs.Content.{content_of}
-use Rattle.nego_shape.specs.Answer.{Tells, HasCause, HasJoint}
+use Rattle.nego_shape.specs.Answer.{Tells, HasCause, LacksShape, HasJoint}
 use Rattle.nego_shape.specs.Faults.{form_fault, not_total, shape_fault}
 use Rattle.nego_shape.specs.Naming.{diagram_in}
-use Rattle.nego_shape.specs.Shaped.{IsFormed, HasNameWords}
-use Rattle.nego_shape.proofs.FirstLaws.{or_missed}
+use Rattle.nego_shape.specs.Shaped.{IsFormed, IsShaped, HasNameWords}
+use Rattle.nego_shape.proofs.FirstLaws.{or_found, or_missed}
+use Rattle.nego_shape.proofs.FaultlessShape.{lacks_shape}
 use Rattle.nego_shape.proofs.JointLaws.{form_joint, total_joint, told_joint}
-use Rattle.nego_shape.proofs.SoundShape.{shaped_form}
+use Rattle.nego_shape.proofs.SoundShape.{shaped_form, total}
 use Rattle.nego_shape.proofs.shaping.shape.Goals as goal
 
 pub new-requires : goal.new-requires
@@ -52,3 +53,22 @@ returns-clause-joint c =
     let form = shaped_form p (sym c.in_ok-fault.ensures ∙ c.in_default.is) in
     IfErr-weaker c.diagram.result (λ e. Tells e (not_total c.in_ok-numbered.numbered)) (λ e. HasJoint e p)
     (λ e h. told_joint p e (not_total p) (total_joint p form.sizes) (subst (Tells e) (ap not_total c.in_ok-numbered.ensures) h)) c.diagram.ensures.err
+
+pub returns-in-Some-clause-misshapen : goal.returns-in-Some-clause-misshapen
+returns-in-Some-clause-misshapen c =
+    let p = c.args.p.now in
+    lacks_shape p (Off c.in-Some.fault) (or_found (form_fault p) (not_total p) c.in-Some.fault (sym c.in_ok-fault.ensures ∙ c.in-Some.is))
+
+pub returns-clause-shaped : goal.returns-clause-shaped
+returns-clause-shaped c =
+    let p = c.args.p.now in
+    let form = shaped_form p (sym c.in_ok-fault.ensures ∙ c.in_default.is) in
+    IfOk-weaker c.diagram.result (λ _. not_total c.in_ok-numbered.numbered ≡ None) (λ _. IsShaped (content_of p))
+    (λ _ h. record { form = form; covered = total p (ap not_total (sym c.in_ok-numbered.ensures) ∙ h) }) c.diagram.ensures.total
+
+pub returns-clause-misshapen : goal.returns-clause-misshapen
+returns-clause-misshapen c =
+    let p = c.args.p.now in
+    let formed : form_fault p ≡ None = sym c.in_ok-fault.ensures ∙ c.in_default.is in
+    IfErr-weaker c.diagram.result (λ e. Tells e (not_total c.in_ok-numbered.numbered)) (λ e. LacksShape e p)
+    (λ e h. lacks_shape p e (subst (Tells e) (ap not_total c.in_ok-numbered.ensures ∙ sym (or_missed (form_fault p) (not_total p) formed)) h)) c.diagram.ensures.err
