@@ -1,8 +1,8 @@
 -- The first fault of a text's sizes is the one that the sizes have.
-use Rattle.std.proofs.Common.{◌≡◌, ◌⊎◌, ⊎_elim, inl, inr, ℕ, zero, suc, ◌+◌, ◌*◌, ◌<◌, ◌≤◌, ◌==◌, Bool, true, false, cond, nat_lt, lt-ltb, List, [], ◌∷◌, length, map, take, get_or, Option, Some, None, refl, sym, subst, ap, ◌∙◌, arith}
+use Rattle.std.proofs.Common.{◌≡◌, ◌⊎◌, ⊎_elim, inl, inr, ℕ, zero, suc, ◌+◌, ◌*◌, ◌<◌, ◌≤◌, ◌==◌, Bool, true, false, cond, nat_lt, lt-ltb, List, [], ◌∷◌, length, map, take, get_or, Option, Some, None, slice_get, refl, sym, subst, ap, ◌∙◌, arith}
 use Rattle.std.proofs.Math.Nat.{mul_assoc}
 use Rattle.std.proofs.lemmas.Bool.{ltb-true, ltb-false}
-use Rattle.std.proofs.lemmas.Option.{same_Some, none-some}
+use Rattle.std.proofs.lemmas.Option.{same_Some, none-some, slice_get-get_or}
 use Rattle.std.proofs.lemmas.List.{length-map, get_or-map}
 use Rattle.std.proofs.lemmas.List.Elements.{All-tail, All-weaker, All-take}
 use Rattle.std.proofs.lemmas.List.Quantifiers.{position-Some}
@@ -48,44 +48,42 @@ first_at f n (x ∷ xs) (suc i) d y l before h =
 abbrev kind_in : Option ShapeFault → Option ShapeKind
 kind_in found = option_map (λ (fault : ShapeFault). fault.kind) found
 
-abbrev size_list : List PAgent → List ℕ
+abbrev pub size_list : List PAgent → List ℕ
 size_list agents = map (λ (agent : PAgent). agent.size) agents
 
 -- the fault of the agents whose sizes pass a test
 abbrev fault_where : (ℕ → Bool) → (AgentId → ShapeKind) → ℕ → PAgent → Option ShapeFault
 fault_where test kind n agent = cond (test agent.size) (Some (fault_on agent.name.line (kind (record { 0 = n })))) None
 
--- the first size that passes is the first agent's fault
-first_size : (test : ℕ → Bool) (kind : AgentId → ShapeKind) (agents : List PAgent) (a : AgentId) → position test (size_list agents) ≡ Some a.0 → kind_in (first_numbered (fault_where test kind) 0 agents) ≡ Some (kind a)
-first_size test kind [] a h = absurd (let place = position-Some test [] a.0 0 h in let below = place.0 in omega (arith, below))
-first_size test kind (x ∷ xs) a h =
-    let agents = x ∷ xs in
+-- the first agent whose size passes has the fault
+first_size : (test : ℕ → Bool) (kind : AgentId → ShapeKind) (agents : List PAgent) (a : AgentId) (d : PAgent) → position test (size_list agents) ≡ Some a.0 →
+    first_numbered (fault_where test kind) 0 agents ≡ Some (fault_on (get_or agents a.0 d).name.line (kind a))
+first_size test kind agents a d h =
     let place = position-Some test (size_list agents) a.0 0 h in
     let count : length (size_list agents) ≡ length agents = length-map agents (λ (agent : PAgent). agent.size) in
     let inside : a.0 < length agents = subst (λ n. a.0 < n) count place.0 in
     let here : 0 + a.0 ≡ a.0 = omega arith in
-    let fault : ℕ → ShapeFault = λ n. fault_on (get_or agents a.0 x).name.line (kind (record { 0 = n })) in
-    ap kind_in
-    (first_at (fault_where test kind) 0 agents a.0 x (fault (0 + a.0)) inside
-    (λ k below. none_if (test (get_or agents k x).size) (fault_on (get_or agents k x).name.line (kind (record { 0 = 0 + k })))
-    (subst (λ s. test s ≡ false) (get_or-map (λ (agent : PAgent). agent.size) agents k x 0 (omega (arith, below, inside))) (place.2 k below)))
-    (passed (test (get_or agents a.0 x).size) (fault (0 + a.0)) (subst (λ s. test s ≡ true) (get_or-map (λ (agent : PAgent). agent.size) agents a.0 x 0 inside) place.1)))
-    ∙ ap (λ n. Some (kind (record { 0 = n }))) here
+    let fault : ℕ → ShapeFault = λ n. fault_on (get_or agents a.0 d).name.line (kind (record { 0 = n })) in
+    first_at (fault_where test kind) 0 agents a.0 d (fault (0 + a.0)) inside
+    (λ k below. none_if (test (get_or agents k d).size) (fault_on (get_or agents k d).name.line (kind (record { 0 = 0 + k })))
+    (subst (λ s. test s ≡ false) (get_or-map (λ (agent : PAgent). agent.size) agents k d 0 (omega (arith, below, inside))) (place.2 k below)))
+    (passed (test (get_or agents a.0 d).size) (fault (0 + a.0)) (subst (λ s. test s ≡ true) (get_or-map (λ (agent : PAgent). agent.size) agents a.0 d 0 inside) place.1))
+    ∙ ap (λ n. Some (fault n)) here
   where
     passed : (t : Bool) (y : ShapeFault) → t ≡ true → cond t (Some y) None ≡ Some y
     passed t y e = rw e refl
 
--- the first product that is too large is its last agent's fault
-first_joint : (product n : ℕ) (agents : List PAgent) (a : ℕ) → a < length agents → All (λ size. 0 < size) (size_list agents) → product * data_count (take a (size_list agents)) ≤ 1024 → 1024 < product * data_count (take (a + 1) (size_list agents)) →
-    kind_in (joint_from product n agents) ≡ Some (kinds.JointTooLarge (record { 0 = n + a }))
+-- the last agent of the first product that is too large has the fault
+first_joint : (product n : ℕ) (agents : List PAgent) (a : ℕ) (d : PAgent) → a < length agents → All (λ size. 0 < size) (size_list agents) → product * data_count (take a (size_list agents)) ≤ 1024 → 1024 < product * data_count (take (a + 1) (size_list agents)) →
+    joint_from product n agents ≡ Some (fault_on (get_or agents a d).name.line (kinds.JointTooLarge (record { 0 = n + a })))
 unfolding joint_from
-first_joint product n [] a l some small large = absurd (omega (arith, l))
-first_joint product n (x ∷ xs) zero l some small large =
+first_joint product n [] a d l some small large = absurd (omega (arith, l))
+first_joint product n (x ∷ xs) zero d l some small large =
     let one : x.size * 1 ≡ x.size = omega arith in
     let above : 1024 < product * x.size = subst (λ m. 1024 < product * m) one large in
     let here : n ≡ n + 0 = omega arith in
-    rw (lt-ltb 1024 (product * x.size) above) (ap (λ m. Some (kinds.JointTooLarge (record { 0 = m }))) here)
-first_joint product n (x ∷ xs) (suc a) l some small large =
+    rw (lt-ltb 1024 (product * x.size) above) (ap (λ m. Some (fault_on x.name.line (kinds.JointTooLarge (record { 0 = m })))) here)
+first_joint product n (x ∷ xs) (suc a) d l some small large =
     let sizes = size_list xs in
     let others = All-tail (λ size. 0 < size) x.size sizes some in
     let more : suc a + 1 ≡ suc (a + 1) = omega arith in
@@ -95,34 +93,59 @@ first_joint product n (x ∷ xs) (suc a) l some small large =
     let positive = data_count-pos (take a sizes) (All-take (λ size. 0 < size) a sizes others) in
     let there : n + 1 + a ≡ n + suc a = omega arith in
     rw (not_above (product * x.size) (first_factor (product * x.size) (data_count (take a sizes)) positive within))
-    (first_joint (product * x.size) (n + 1) xs a (omega (arith, l)) others within beyond ∙ ap (λ m. Some (kinds.JointTooLarge (record { 0 = m }))) there)
+    (first_joint (product * x.size) (n + 1) xs a d (omega (arith, l)) others within beyond ∙ ap (λ m. Some (fault_on (get_or xs a d).name.line (kinds.JointTooLarge (record { 0 = m })))) there)
 
 -- what sizes have holds of the agents
 by_agents : (P : ℕ → Type 0) (agents : List PAgent) → All P (size_list agents) → All (λ (x : PAgent). P x.size) agents
 by_agents P agents h = All-unmap P (λ (x : PAgent). x.size) agents h
 
--- a kind that is found first
-found : (o rest : Option ShapeFault) (kind : ShapeKind) → kind_in o ≡ Some kind → kind_in (option_or o rest) ≡ Some kind
-found None rest kind e = absurd (none-some kind e)
-found (Some y) rest kind e = e
+-- the agent whom a fault of sizes names
+abbrev agent_of : SizeFault → ℕ
+agent_of (faults.ZeroSize a) = a.0
+agent_of (faults.SizeTooLarge a) = a.0
+agent_of (faults.JointTooLarge a) = a.0
 
--- the fault of sizes is found
-found_kind : (p : Parsed) (fault : SizeFault) → HasFault (size_list p.agents) fault → kind_in (size_fault p) ≡ Some (kind_of fault)
-found_kind p (faults.ZeroSize a) h = found (zero_size p.agents) (option_or (size_too_large p.agents) (joint_too_large p.agents)) (kinds.ZeroSize a) (first_size (λ size. size == 0) kinds.ZeroSize p.agents a h)
-found_kind p (faults.SizeTooLarge a) h =
-    ap kind_in (or_missed (zero_size p.agents) (option_or (size_too_large p.agents) (joint_too_large p.agents)) (none_zero p.agents (by_agents (λ size. 0 < size) p.agents h.0)))
-    ∙ found (size_too_large p.agents) (joint_too_large p.agents) (kinds.SizeTooLarge a) (first_size (λ size. nat_lt 64 size) kinds.SizeTooLarge p.agents a h.1)
-found_kind p (faults.JointTooLarge a) h =
+-- there is this agent
+pub agent_inside : (agents : List PAgent) (fault : SizeFault) → HasFault (size_list agents) fault → agent_of fault < length agents
+agent_inside agents (faults.ZeroSize a) h =
+    subst (λ n. a.0 < n) (length-map agents (λ (agent : PAgent). agent.size)) (position-Some (λ size. size == 0) (size_list agents) a.0 0 h).0
+agent_inside agents (faults.SizeTooLarge a) h =
+    subst (λ n. a.0 < n) (length-map agents (λ (agent : PAgent). agent.size)) (position-Some (λ size. nat_lt 64 size) (size_list agents) a.0 0 h.1).0
+agent_inside agents (faults.JointTooLarge a) h = subst (λ n. a.0 < n) (length-map agents (λ (agent : PAgent). agent.size)) h.1
+
+-- the fault of sizes is found, on its agent's line
+found_at : (p : Parsed) (fault : SizeFault) (d : PAgent) → HasFault (size_list p.agents) fault → size_fault p ≡ Some (fault_on (get_or p.agents (agent_of fault) d).name.line (kind_of fault))
+found_at p (faults.ZeroSize a) d h = or_found (zero_size p.agents) (option_or (size_too_large p.agents) (joint_too_large p.agents)) _ (first_size (λ size. size == 0) kinds.ZeroSize p.agents a d h)
+found_at p (faults.SizeTooLarge a) d h =
+    or_missed (zero_size p.agents) (option_or (size_too_large p.agents) (joint_too_large p.agents)) (none_zero p.agents (by_agents (λ size. 0 < size) p.agents h.0))
+    ∙ or_found (size_too_large p.agents) (joint_too_large p.agents) _ (first_size (λ size. nat_lt 64 size) kinds.SizeTooLarge p.agents a d h.1)
+found_at p (faults.JointTooLarge a) d h =
     let some = All-weaker (λ size. (0 < size) × (size ≤ 64)) (λ size. 0 < size) (λ size k. k.0) (size_list p.agents) h.0 in
     let few = All-weaker (λ size. (0 < size) × (size ≤ 64)) (λ size. size ≤ 64) (λ size k. k.1) (size_list p.agents) h.0 in
-    let inside : a.0 < length p.agents = subst (λ n. a.0 < n) (length-map p.agents (λ (agent : PAgent). agent.size)) h.1 in
+    let inside : a.0 < length p.agents = agent_inside p.agents (faults.JointTooLarge a) h in
     let small = h.2 in
     let large = h.3 in
     let here : 0 + a.0 ≡ a.0 = omega arith in
-    ap kind_in
-    (or_missed (zero_size p.agents) (option_or (size_too_large p.agents) (joint_too_large p.agents)) (none_zero p.agents (by_agents (λ size. 0 < size) p.agents some))
-    ∙ or_missed (size_too_large p.agents) (joint_too_large p.agents) (none_large p.agents (by_agents (λ size. size ≤ 64) p.agents few)))
-    ∙ (first_joint 1 0 p.agents a.0 inside some (omega (arith, small)) (omega (arith, large)) ∙ ap (λ m. Some (kinds.JointTooLarge (record { 0 = m }))) here)
+    or_missed (zero_size p.agents) (option_or (size_too_large p.agents) (joint_too_large p.agents)) (none_zero p.agents (by_agents (λ size. 0 < size) p.agents some))
+    ∙ (or_missed (size_too_large p.agents) (joint_too_large p.agents) (none_large p.agents (by_agents (λ size. size ≤ 64) p.agents few))
+    ∙ (first_joint 1 0 p.agents a.0 d inside some (omega (arith, small)) (omega (arith, large)) ∙ ap (λ m. Some (fault_on (get_or p.agents a.0 d).name.line (kinds.JointTooLarge (record { 0 = m })))) here))
+
+-- an item of a list that has some
+some_item : {A : Type 0} (xs : List A) (n : ℕ) → n < length xs → A
+some_item [] n l = absurd (omega (arith, l))
+some_item (x ∷ xs) n l = x
+
+-- a fault on the line of the agent is the text's
+pub found_fault : (p : Parsed) (fault : SizeFault) (told : ShapeFault) → HasFault (size_list p.agents) fault →
+    ((agent : PAgent) → slice_get p.agents (agent_of fault) ≡ Some agent → told ≡ fault_on agent.name.line (kind_of fault)) → size_fault p ≡ Some told
+found_fault p fault told h is =
+    let inside = agent_inside p.agents fault h in
+    let d = some_item p.agents (agent_of fault) inside in
+    found_at p fault d h ∙ ap (λ (x : ShapeFault). Some x) (sym (is (get_or p.agents (agent_of fault) d) (slice_get-get_or p.agents (agent_of fault) d inside)))
+
+-- the kind of the fault of sizes is found
+found_kind : (p : Parsed) (fault : SizeFault) → HasFault (size_list p.agents) fault → kind_in (size_fault p) ≡ Some (kind_of fault)
+found_kind p fault h = ap kind_in (found_at p fault (some_item p.agents (agent_of fault) (agent_inside p.agents fault h)) h)
 
 -- either the product of all sizes is small, or there is a first that is too large
 abbrev PassesAt : ℕ → List ℕ → Type 0

@@ -1,12 +1,12 @@
 //! The first fault of shape.
 
-ghost use Rattle.std.specs.Prelude.{◌≡◌, ◌≤◌, length, IfOk};
-ghost use Rattle.nego_shape.specs.Faults.{out_names, twice, unknown, party_fault, next_fault, size_fault, inner_fault, form_fault};
+ghost use Rattle.std.specs.Prelude.{◌≡◌, ◌<◌, ◌≤◌, length, IfOk};
+ghost use Rattle.nego_shape.specs.Faults.{out_names, twice, unknown, party_fault, next_fault, inner_fault, form_fault};
 
 use crate::checks::counts::{no_agent, too_many};
 use crate::checks::outcomes::{Rule, broken};
 use crate::checks::parties::{first_lacks, last_lacks, no_outcome, no_party};
-use crate::checks::sizes::{joint_too_large, size_too_large, zero_size};
+use crate::checks::sizes::size_fault;
 use crate::checks::twice::twice_in;
 use crate::checks::unknown::unknown_in;
 use crate::fault::{ShapeFault, ShapeKind};
@@ -67,29 +67,24 @@ fn next_fault(p: &Parsed) -> Option<ShapeFault>
         .or_else(|| broken(Rule::LastLeads, p))
 }
 
-/// The first fault of sizes.
-fn size_fault(p: &Parsed) -> Option<ShapeFault>
-    requires { length p.now.agents ≤ 16 }
-    ensures { result ≡ size_fault p.now }
-{
-    let agents = p.agents.as_slice();
-    zero_size(agents)
-        .or_else(|| size_too_large(agents))
-        .or_else(|| joint_too_large(agents))
-}
-
 /// The first fault behind those of names.
-fn inner_fault(p: &Parsed) -> Option<ShapeFault>
+fn inner_fault(alloc: Global, p: &Parsed) -> Result<Option<ShapeFault>, Memory>
+    requires some_agent { 0 < length p.now.agents }
     requires agents { length p.now.agents ≤ 16 }
     requires atoms { length p.now.atoms ≤ 64 }
     requires outcomes { length (out_names p.now.atoms) ≤ 256 }
-    ensures { result ≡ inner_fault p.now }
+    ensures { IfOk result (λ fault. fault ≡ inner_fault p.now) }
 {
-    party_fault(p)
+    let found = party_fault(p)
         .or_else(|| next_fault(p))
-        .or_else(|| broken(Rule::NotParty, p))
-        .or_else(|| size_fault(p))
-        .or_else(|| broken(Rule::ValueTooLarge, p))
+        .or_else(|| broken(Rule::NotParty, p));
+    if let Some(fault) = found {
+        return Ok(Some(fault));
+    }
+    if let Some(fault) = size_fault(alloc, p)? {
+        return Ok(Some(fault));
+    }
+    Ok(broken(Rule::ValueTooLarge, p))
 }
 
 /// The first fault of shape, but that of cases which leave joint data uncovered.
@@ -108,5 +103,5 @@ pub(crate) fn form_fault(alloc: Global, p: &Parsed) -> Result<Option<ShapeFault>
     if let Some(fault) = unknown(alloc, p)? {
         return Ok(Some(fault));
     }
-    Ok(inner_fault(p))
+    inner_fault(alloc, p)
 }

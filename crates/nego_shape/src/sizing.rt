@@ -21,7 +21,7 @@ pub fn sizes_of(alloc: Global, p: &Parsed) -> Result<Sizes, Memory>
 }
 
 /// The sizes as numbers.
-fn numbers_of(alloc: Global, p: &Parsed) -> Result<Seq<u32>, Memory>
+pub(crate) fn numbers_of(alloc: Global, p: &Parsed) -> Result<Seq<u32>, Memory>
     ensures { IfOk result (λ sizes. sizes ≡ map (λ agent. agent.size) p.now.agents) }
 {
     let mut sizes = Seq::new(alloc);

@@ -1,96 +1,49 @@
 //! The sizes of agents' data.
 
-ghost use Rattle.std.specs.Prelude.{◌≡◌, ◌*◌, ◌<◌, ◌≤◌, length};
-ghost use Rattle.nego_shape.specs.Faults.{zero_size_at, zero_size, size_too_large_at, size_too_large, joint_too_large};
+ghost use Rattle.std.specs.Prelude.{◌≡◌, ◌<◌, ◌≤◌, length, map, slice_get, Some, IfOk};
+ghost use Rattle.nego_data.specs.Sizes.{HasFault};
+ghost use Rattle.nego_reader.specs.declared.parsed.PAgent.{PAgent};
+ghost use Rattle.nego_shape.specs.Faults.{fault_on, size_fault};
 
 use crate::fault::{ShapeFault, ShapeKind};
-use nego_base::AgentId;
-use nego_reader::PAgent;
+use crate::sizing::numbers_of;
+use nego_base::{AgentId, Memory};
+use nego_data::{SizeFault, Sizes};
+use nego_reader::Parsed;
+use std::alloc::Global;
 
-/// The greatest size of an agent's data.
-const MAX_SIZE: u32 = 64;
-
-/// The greatest product of all sizes.
-const MAX_JOINT: u64 = 1024;
-
-/// That the agent of this number has size 0.
-fn zero_size_at(n: usize, agent: &PAgent) -> Option<ShapeFault>
-    requires { n < 16 }
-    ensures { result ≡ zero_size_at n agent.now }
+/// The first fault of sizes.
+pub(crate) fn size_fault(alloc: Global, p: &Parsed) -> Result<Option<ShapeFault>, Memory>
+    requires some_agent { 0 < length p.now.agents }
+    requires few_agents { length p.now.agents ≤ 16 }
+    ensures { IfOk result (λ fault. fault ≡ size_fault p.now) }
 {
-    if agent.size == 0 {
-        Some(ShapeFault {
-            line: agent.name.line,
-            kind: ShapeKind::ZeroSize(AgentId(n as u32)),
-        })
-    } else {
-        None
+    let sizes = numbers_of(alloc, p)?;
+    match Sizes::new(sizes.as_slice()) {
+        Ok(_sizes) => Ok(None),
+        Err(fault) => Ok(Some(told(p, fault))),
     }
 }
 
-/// The first agent of size 0.
-pub(crate) fn zero_size(agents: &[PAgent]) -> Option<ShapeFault>
-    requires { length agents.now ≤ 16 }
-    ensures { result ≡ zero_size agents.now }
+/// The fault of shape that the fault of the agents' sizes is.
+fn told(p: &Parsed, fault: SizeFault) -> ShapeFault
+    requires { HasFault (map (λ agent. agent.size) p.now.agents) fault }
+    ensures { size_fault p.now ≡ Some result }
 {
-    for (i, agent) in agents.iter().enumerate() {
-        if let Some(fault) = zero_size_at(i, agent) {
-            return Some(fault);
-        }
-    }
-    None
-}
-
-/// That the agent of this number has a size above 64.
-fn size_too_large_at(n: usize, agent: &PAgent) -> Option<ShapeFault>
-    requires { n < 16 }
-    ensures { result ≡ size_too_large_at n agent.now }
-{
-    if agent.size > MAX_SIZE {
-        Some(ShapeFault {
-            line: agent.name.line,
-            kind: ShapeKind::SizeTooLarge(AgentId(n as u32)),
-        })
-    } else {
-        None
+    match fault {
+        SizeFault::ZeroSize(a) => fault_of(p, a, ShapeKind::ZeroSize(a)),
+        SizeFault::SizeTooLarge(a) => fault_of(p, a, ShapeKind::SizeTooLarge(a)),
+        SizeFault::JointTooLarge(a) => fault_of(p, a, ShapeKind::JointTooLarge(a)),
     }
 }
 
-/// The first agent of a size above 64.
-pub(crate) fn size_too_large(agents: &[PAgent]) -> Option<ShapeFault>
-    requires { length agents.now ≤ 16 }
-    ensures { result ≡ size_too_large agents.now }
+/// A fault of the agent, on the agent's line.
+fn fault_of(p: &Parsed, a: AgentId, kind: ShapeKind) -> ShapeFault
+    requires { a.0 < length p.now.agents }
+    ensures { (agent : PAgent) → slice_get p.now.agents a.0 ≡ Some agent → result ≡ fault_on agent.name.line kind }
 {
-    for (i, agent) in agents.iter().enumerate() {
-        if let Some(fault) = size_too_large_at(i, agent) {
-            return Some(fault);
-        }
+    ShapeFault {
+        line: p.agents[a.0 as usize].name.line,
+        kind,
     }
-    None
-}
-
-/// The product with one more size.
-fn times(product: u64, size: u32) -> u64
-    requires { product ≤ 1024 }
-    ensures { result ≡ product * size }
-{
-    product * size as u64
-}
-
-/// The first agent with whose size the product of the sizes passes 1,024.
-pub(crate) fn joint_too_large(agents: &[PAgent]) -> Option<ShapeFault>
-    requires { length agents.now ≤ 16 }
-    ensures { result ≡ joint_too_large agents.now }
-{
-    let mut product: u64 = 1;
-    for (i, agent) in agents.iter().enumerate() {
-        product = times(product, agent.size);
-        if product > MAX_JOINT {
-            return Some(ShapeFault {
-                line: agent.name.line,
-                kind: ShapeKind::JointTooLarge(AgentId(i as u32)),
-            });
-        }
-    }
-    None
 }
