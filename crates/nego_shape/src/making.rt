@@ -41,8 +41,8 @@ pub(crate) fn diagram(alloc: Global, p: &Numbered) -> Result<Diagram, ShapeAnswe
         sizes,
         atoms,
         outcomes,
-        first: AtomId(p.atom(&text.first)),
-        last: AtomId(p.atom(&text.last)),
+        first: p.atom(&text.first),
+        last: p.atom(&text.last),
     }))
 }
 
@@ -161,30 +161,30 @@ fn next_sets(p: &Numbered, n: usize, out: &POut) -> [AtomSet; 16]
 {
     let mut nexts = [AtomSet::none(); 16];
     for a in 0..p.text().agents.len() {
-        nexts[a] = next_set(p, n, out, a as u32);
+        nexts[a] = next_set(p, n, out, AgentId(a as u32));
     }
     nexts
 }
 
 /// The next atoms of the agent after the outcome.
-fn next_set(p: &Numbered, n: usize, out: &POut, a: u32) -> AtomSet
+fn next_set(p: &Numbered, n: usize, out: &POut, a: AgentId) -> AtomSet
     requires shaped { IsFormed (content_of p.now) }
     requires out { Contains (all_outs (content_of p.now)) (placed_at n (out_content out.now)) }
-    ensures { result ≡ next_atoms (content_of p.now) (out_content out.now) a }
+    ensures { result ≡ next_atoms (content_of p.now) (out_content out.now) a.0 }
 {
     let mut set = AtomSet::none();
     for next in out.nexts.iter() {
         if stands(p, next, a) {
-            set = set.with(AtomId(p.atom(&next.atom)));
+            set = set.with(p.atom(&next.atom));
         }
     }
     set
 }
 
 /// Whether the agent stands on the next line.
-fn stands(p: &Numbered, next: &PNext, a: u32) -> bool
+fn stands(p: &Numbered, next: &PNext, a: AgentId) -> bool
     requires { IsFormed (content_of p.now) }
-    ensures { result ≡ list_any (λ name. place_of name.text (agent_names (content_of p.now)) == a) next.now.agents }
+    ensures { result ≡ list_any (λ name. place_of name.text (agent_names (content_of p.now)) == a.0) next.now.agents }
 {
     next.agents.iter().any(|name| p.agent(name) == a)
 }
@@ -206,7 +206,7 @@ fn party_set(p: &Numbered, names: &[Word]) -> AgentSet
 {
     let mut set = AgentSet::none();
     for name in names {
-        set = set.with(AgentId(p.agent(name)));
+        set = set.with(p.agent(name));
     }
     set
 }
@@ -272,7 +272,7 @@ fn test_of(p: &Numbered, test: &PTest) -> Test
     ensures { result ≡ test_in (content_of p.now) (test_content test.now) }
 {
     Test {
-        agent: AgentId(p.agent(&test.left)),
+        agent: p.agent(&test.left),
         op: test.op,
         right: right_of(p, &test.right),
     }
@@ -284,7 +284,7 @@ fn right_of(p: &Numbered, right: &PRight) -> Operand
 {
     match right {
         PRight::Number(n) => Operand::Number(*n),
-        PRight::Name(name) => Operand::Value(AgentId(p.agent(name))),
+        PRight::Name(name) => Operand::Value(p.agent(name)),
     }
 }
 
@@ -305,7 +305,7 @@ fn set_of(p: &Numbered, set: &PSet) -> Set
     ensures { result ≡ set_in (content_of p.now) (set_content set.now) }
 {
     Set {
-        agent: AgentId(p.agent(&set.agent)),
+        agent: p.agent(&set.agent),
         term: term_of(p, &set.term),
     }
 }
@@ -317,7 +317,7 @@ fn term_of(p: &Numbered, term: &PTerm) -> Term
     match term {
         PTerm::Any => Term::Any,
         PTerm::Number(n) => Term::Number(*n),
-        PTerm::Plus(name, n) => Term::Plus(AgentId(p.agent(name)), *n),
-        PTerm::Minus(name, n) => Term::Minus(AgentId(p.agent(name)), *n),
+        PTerm::Plus(name, n) => Term::Plus(p.agent(name), *n),
+        PTerm::Minus(name, n) => Term::Minus(p.agent(name), *n),
     }
 }

@@ -1,14 +1,14 @@
-//! The numbers of names: agents and atoms count from 0 in the order in which the text first names them.
+//! The numbers of names: agents count from 0 in the order of the agent lines, and atoms in that of the atom lines.
 
 ghost use Rattle.std.specs.Prelude.{◌≡◌, ◌≤◌, map, IfOk, OnOk};
 ghost use Rattle.std.specs.Str.{bytes_eq};
 ghost use Rattle.indexmap.specs.IndexSet.{index_set_len, insert_key};
 ghost use Rattle.nego_reader.specs.Content.{content_of};
-ghost use Rattle.nego_shape.specs.Naming.{place_of, agent_names, atom_names};
+ghost use Rattle.nego_shape.specs.Naming.{place_of, atom_names, agent_in};
 ghost use Rattle.nego_shape.specs.Shaped.{AreDifferent, AreNamedOnce, IsFormed};
 
 use indexmap::IndexSet;
-use nego_base::{Memory, Text, Word};
+use nego_base::{AgentId, AtomId, Memory, Text, Word};
 use nego_reader::{PAgent, PAtom, Parsed};
 use std::alloc::Global;
 use std::marker::Model;
@@ -56,20 +56,20 @@ impl<'a> Numbered<'a> {
         self.text
     }
 
-    /// The number of the agent of this name, and the count of agents where there is none.
-    pub(crate) fn agent(&self, name: &Word) -> u32
+    /// The agent of this name, and the number behind the last where there is none.
+    pub(crate) fn agent(&self, name: &Word) -> AgentId
         requires { IsFormed (content_of self.now) }
-        ensures { result ≡ place_of name.now.text (agent_names (content_of self.now)) }
+        ensures { result ≡ agent_in (content_of self.now) name.now.text }
     {
-        number_of(&self.agents, name)
+        AgentId(number_of(&self.agents, name))
     }
 
-    /// The number of the atom of this name, and the count of atoms where there is none.
-    pub(crate) fn atom(&self, name: &Word) -> u32
+    /// The atom of this name, and the number behind the last where there is none.
+    pub(crate) fn atom(&self, name: &Word) -> AtomId
         requires { IsFormed (content_of self.now) }
-        ensures { result ≡ place_of name.now.text (atom_names (content_of self.now)) }
+        ensures { result.0 ≡ place_of name.now.text (atom_names (content_of self.now)) }
     {
-        number_of(&self.atoms, name)
+        AtomId(number_of(&self.atoms, name))
     }
 }
 

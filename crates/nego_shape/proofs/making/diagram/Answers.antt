@@ -19,7 +19,7 @@ from_parts-requires c =
     let p = c.args.p.now in
     let same = c.text-text.ensures in
     shaped-parts (content_of p) (record { form = c.requires.shaped; covered = total p c.in_ok-outcomes.ensures.total }) c.requires.named _
-    (diagram_made p c.in_ok-agents.agents c.in_ok-sizes.sizes c.in_ok-atoms.atoms c.in_ok-outcomes.outcomes c.atom.result c.atom-2.result
+    (diagram_made p c.in_ok-agents.agents c.in_ok-sizes.sizes c.in_ok-atoms.atoms c.in_ok-outcomes.outcomes c.atom.result.0 c.atom-2.result.0
     (c.in_ok-agents.ensures ∙ ap (λ (q : Parsed). map (λ agent. agent.name.text) q.agents) same) (c.in_ok-sizes.ensures ∙ ap (λ (q : Parsed). sizes_in (content_of q)) same) c.in_ok-atoms.ensures c.in_ok-outcomes.ensures.parts
     (c.atom.ensures ∙ ap (λ (q : Parsed). place_of q.first.text (atom_names (content_of p))) same) (c.atom-2.ensures ∙ ap (λ (q : Parsed). place_of q.last.text (atom_names (content_of p))) same)) c.in_ok-atoms.ensures
 
@@ -27,6 +27,6 @@ pub returns-clause-content : goal.returns-clause-content
 returns-clause-content c =
     let p = c.args.p.now in
     let same = c.text-text.ensures in
-    c.from_parts.ensures ∙ diagram_made p c.in_ok-agents.agents c.in_ok-sizes.sizes c.in_ok-atoms.atoms c.in_ok-outcomes.outcomes c.atom.result c.atom-2.result
+    c.from_parts.ensures ∙ diagram_made p c.in_ok-agents.agents c.in_ok-sizes.sizes c.in_ok-atoms.atoms c.in_ok-outcomes.outcomes c.atom.result.0 c.atom-2.result.0
     (c.in_ok-agents.ensures ∙ ap (λ (q : Parsed). map (λ agent. agent.name.text) q.agents) same) (c.in_ok-sizes.ensures ∙ ap (λ (q : Parsed). sizes_in (content_of q)) same) c.in_ok-atoms.ensures c.in_ok-outcomes.ensures.parts
     (c.atom.ensures ∙ ap (λ (q : Parsed). place_of q.first.text (atom_names (content_of p))) same) (c.atom-2.ensures ∙ ap (λ (q : Parsed). place_of q.last.text (atom_names (content_of p))) same)

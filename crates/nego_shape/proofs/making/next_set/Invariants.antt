@@ -6,4 +6,4 @@ use Rattle.nego_shape.specs.Naming.{leads_to}
 use Rattle.nego_shape.proofs.making.next_set.Given as goal
 
 abbrev pub invariant-loop-next : goal.invariant-loop-next
-invariant-loop-next l = IsRisingBelow 64 l.set × ((m : ℕ) → is_in m l.set ≡ list_any (leads_to (content_of l.p) l.a m) (map next_content (take l.next-index l.next-items)))
+invariant-loop-next l = IsRisingBelow 64 l.set × ((m : ℕ) → is_in m l.set ≡ list_any (leads_to (content_of l.p) l.a.0 m) (map next_content (take l.next-index l.next-items)))

@@ -1,5 +1,6 @@
 use Rattle.std.proofs.Common.{◌≡◌, List, take, ap, ◌∙◌, arith}
 use Rattle.std.proofs.lemmas.List.{take_all}
+use Rattle.nego_base.specs.declared.ids.AgentId.{AgentId}
 use Rattle.nego_base.specs.declared.line.Word.{Word}
 use Rattle.nego_base.specs.Members.{is_in}
 use Rattle.nego_reader.specs.Content.{content_of, texts}
@@ -14,13 +15,13 @@ with-set-requires c =
     let d = at_item (IsDeclared (agent_names (content_of c.args.p.now))) (λ (w : Word). w.text) c.args.names.now c.loop-name.name-index c.name-item.result c.requires.declared c.loop-name-test.true c.name-item.is in
     let few = c.requires.shaped.few_agents in
     let count = agents-count (content_of c.args.p.now) in
-    let at = c.agent.ensures in omega (arith, at, d, few, count)
+    let at = ap (λ (a : AgentId). a.0) c.agent.ensures in omega (arith, at, d, few, count)
 
 pub loop-name-preserved : goal.loop-name-preserved
 loop-name-preserved c = (
   c.with-set.ensures.rising,
   λ a. ap (is_in a) c.with-set.ensures.value
-      ∙ one_more_place (agent_names (content_of c.args.p.now)) c.args.names.now c.loop-name.name-index c.name-item.result c.loop-name.set c.agent.result c.loop-name-test.true c.name-item.is c.agent.ensures c.loop-name.invariant.1 a,
+      ∙ one_more_place (agent_names (content_of c.args.p.now)) c.args.names.now c.loop-name.name-index c.name-item.result c.loop-name.set c.agent.result.0 c.loop-name-test.true c.name-item.is (ap (λ (a : AgentId). a.0) c.agent.ensures) c.loop-name.invariant.1 a,
 )
 
 pub returns : goal.returns

@@ -1,4 +1,5 @@
-use Rattle.std.proofs.Common.{◌≡◌, length, ap, ◌∙◌, arith}
+use Rattle.std.proofs.Common.{◌≡◌, ℕ, length, ap, ◌∙◌, arith}
+use Rattle.nego_base.specs.declared.ids.AgentId.{AgentId}
 use Rattle.nego_reader.specs.declared.parsed.Parsed.{Parsed}
 use Rattle.nego_reader.specs.Content.{content_of}
 use Rattle.nego_shape.specs.Naming.{place_of, agent_names}
@@ -16,4 +17,5 @@ number_of-requires c =
 pub returns : goal.returns
 returns c =
     let same : c.self.inside.agents.keys ≡ agent_names (content_of c.args.self.now) = c.self.invariant.0 ∙ ap (λ (p : Parsed). agent_names (content_of p)) c.self.view_is in
-    c.number_of.ensures ∙ ap (place_of c.args.name.now.text) same
+    let agent : ℕ → AgentId = λ n. record { 0 = n } in
+    ap agent (c.number_of.ensures ∙ ap (place_of c.args.name.now.text) same)
