@@ -1,5 +1,5 @@
--- When a text's content has the shape of a diagram: one condition for each kind of fault of shape, in the order in which
--- the kinds are tested.
+-- When a text's content has the shape of a diagram: the conditions that faults of shape break, in the order in which the
+-- kinds of faults are tested. There are three for what there is too much of, and one for the three kinds of sizes.
 use Rattle.std.specs.Prelude.{◌≡◌, ◌≢◌, ℕ, ◌<◌, ◌≤◌, List, [], ◌∷◌, ◌++◌, length, map, filter, All, AllPairs, IsTrue}
 use Rattle.std.specs.List.{flat_map, list_any}
 use Rattle.std.specs.Str.{bytes_eq}

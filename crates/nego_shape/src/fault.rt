@@ -15,7 +15,7 @@ pub enum Many {
 }
 
 /// A fault of shape. Agents, atoms and outcomes are numbered in the order of the text, from 0.
-#[derive(Debug, Drop)]
+#[derive(Debug, PartialEq, Eq, Drop)]
 pub enum ShapeKind {
     /// There is no agent.
     NoAgent,
@@ -55,7 +55,7 @@ pub enum ShapeKind {
 }
 
 /// A fault of shape, and the line on which it stands, from 1.
-#[derive(Debug, Drop)]
+#[derive(Debug, PartialEq, Eq, Drop)]
 pub struct ShapeFault {
     pub line: u32,
     pub kind: ShapeKind,
@@ -65,7 +65,7 @@ pub struct ShapeFault {
 #[derive(Debug, Drop, Error)]
 pub enum ShapeAnswer {
     /// The text has this fault of shape.
-    #[error("the text is not the shape of a diagram")]
+    #[error("the text does not have the shape of a diagram")]
     Off(ShapeFault),
     /// Want of memory.
     #[error("out of memory")]
