@@ -36,3 +36,7 @@ pub mod FaultlessRules
 pub mod FaultlessSearches
 pub mod FaultlessShape
 pub mod FaultlessSizes
+pub mod Tellings
+pub mod Ranks
+pub mod KindRanks
+pub mod FirstBroken

@@ -1,8 +1,10 @@
 //! Laws over the definitions. Each function does nothing; its clause is the law.
 
-ghost use Rattle.std.specs.Prelude.{◌≡◌, None};
+ghost use Rattle.std.specs.Prelude.{◌≡◌, Some, None};
 ghost use Rattle.nego_reader.specs.declared.parsed.Parsed.{Parsed};
 ghost use Rattle.nego_reader.specs.Content.{content_of};
+ghost use Rattle.nego_shape.specs.declared.fault.ShapeFault.{ShapeFault};
+ghost use Rattle.nego_shape.specs.Broken.{IsFirstBroken};
 ghost use Rattle.nego_shape.specs.Faults.{shape_fault};
 ghost use Rattle.nego_shape.specs.Laws.{OneOrderIsTold, OneCycleIsFound, SizeFaultsAreThoseOfSizes};
 ghost use Rattle.nego_shape.specs.Shaped.{IsShaped};
@@ -26,4 +28,9 @@ pub fn faultless_texts_are_those_shaped()
 /// The first fault of a text's sizes is the one that `Sizes::new` answers of them.
 pub fn size_faults_are_those_of_sizes()
     ensures { SizeFaultsAreThoseOfSizes }
+{}
+
+/// A told fault of shape is of the first kind, in the order of the kinds, whose condition the text's content breaks.
+pub fn told_faults_are_the_first_broken()
+    ensures { (p : Parsed) (fault : ShapeFault) → shape_fault p ≡ Some fault → IsFirstBroken (content_of p) fault.kind }
 {}

@@ -1,0 +1,193 @@
+-- What a search that finds something tells of what it found.
+use Rattle.std.proofs.Common.{◌≡◌, ◌⊎◌, ⊎_elim, inl, inr, ℕ, zero, suc, ◌+◌, Bool, true, false, cond, List, [], ◌∷◌, ◌++◌, length, map, get_or, Option, Some, None, slice_get, refl, sym, subst, ap, ◌∙◌, arith}
+use Rattle.std.proofs.lemmas.Option.{same_Some, none-some, slice_get-map, slice_get-get_or}
+use Rattle.std.proofs.lemmas.List.{length-map}
+use Rattle.std.proofs.lemmas.List.Quantifiers.{position-Some}
+use Rattle.std.specs.List.{position}
+use Rattle.std.specs.Option.{option_or, option_map}
+use Rattle.nego_base.specs.declared.ids.AgentId.{AgentId}
+use Rattle.nego_reader.specs.declared.parsed.PAgent.{PAgent}
+use Rattle.nego_reader.specs.declared.parsed.PAtom.{PAtom}
+use Rattle.nego_reader.specs.declared.parsed.POut.{POut}
+use Rattle.nego_reader.specs.Content.{atom_content, out_content}
+use Rattle.nego_shape.specs.declared.fault.ShapeFault.{ShapeFault}
+use Rattle.nego_shape.specs.declared.fault.ShapeKind.{ShapeKind}
+use Rattle.nego_shape.specs.Firsts.{first_among, first_numbered}
+use Rattle.nego_shape.specs.Naming.{outs_from}
+use Rattle.nego_shape.specs.Made.{placed_at}
+use Rattle.nego_shape.specs.Faults.{fault_on, agent_fault}
+
+-- which of two gives
+pub or_some : {A : Type 0} (o rest : Option A) (x : A) → option_or o rest ≡ Some x → (o ≡ Some x) ⊎ ((o ≡ None) × (rest ≡ Some x))
+or_some None rest x h = inr (refl, h)
+or_some (Some y) rest x h = inl h
+
+pub map_some : {A B : Type 0} (f : A → B) (o : Option A) (y : B) → option_map f o ≡ Some y → (x : A) × (o ≡ Some x) × (f x ≡ y)
+map_some f None y h = absurd (none-some y h)
+map_some f (Some x) y h = (x, refl, same_Some (f x) y h)
+
+pub if_some : {A : Type 0} (t : Bool) (x y : A) → cond t (Some x) None ≡ Some y → (t ≡ true) × (x ≡ y)
+if_some true x y h = (refl, same_Some x y h)
+if_some false x y h = absurd (none-some y h)
+
+-- the item of which something is given, where items are numbered from n on
+record FoundFrom {A B : Type 0} (f : ℕ → A → Option B) (n : ℕ) (xs : List A) (y : B) : Type 0 where
+  pub place : ℕ
+  pub item : A
+  pub at : slice_get xs place ≡ Some item
+  pub gives : f (n + place) item ≡ Some y
+
+numbered_from : {A B : Type 0} (f : ℕ → A → Option B) (n : ℕ) (xs : List A) (y : B) → first_numbered f n xs ≡ Some y → FoundFrom f n xs y
+unfolding first_numbered
+numbered_from f n [] y h = absurd (none-some y h)
+numbered_from f n (x ∷ xs) y h =
+    let here : n ≡ n + 0 = omega arith in
+    ⊎_elim
+    (λ e. record { place = 0; item = x; at = refl; gives = subst (λ m. f m x ≡ Some y) here e })
+    (λ e.
+    let r = numbered_from f (n + 1) xs y e.1 in
+    let there : n + 1 + r.place ≡ n + suc r.place = omega arith in
+    record { place = suc r.place; item = r.item; at = r.at; gives = subst (λ m. f m r.item ≡ Some y) there r.gives })
+    (or_some (f n x) (first_numbered f (n + 1) xs) y h)
+
+-- the same, where they are numbered from 0 on
+pub record Found {A B : Type 0} (f : ℕ → A → Option B) (xs : List A) (y : B) : Type 0 where
+  pub place : ℕ
+  pub item : A
+  pub at : slice_get xs place ≡ Some item
+  pub gives : f place item ≡ Some y
+
+pub numbered_some : {A B : Type 0} (f : ℕ → A → Option B) (xs : List A) (y : B) → first_numbered f 0 xs ≡ Some y → Found f xs y
+numbered_some f xs y h =
+    let r = numbered_from f 0 xs y h in
+    let here : 0 + r.place ≡ r.place = omega arith in
+    record { place = r.place; item = r.item; at = r.at; gives = subst (λ m. f m r.item ≡ Some y) here r.gives }
+
+pub among_some : {A B : Type 0} (f : A → Option B) (xs : List A) (y : B) → first_among f xs ≡ Some y → Found (λ i x. f x) xs y
+unfolding first_among
+among_some f [] y h = absurd (none-some y h)
+among_some f (x ∷ xs) y h =
+    ⊎_elim
+    (λ e. record { place = 0; item = x; at = refl; gives = e })
+    (λ e. let r = among_some f xs y e.1 in record { place = suc r.place; item = r.item; at = r.at; gives = r.gives })
+    (or_some (f x) (first_among f xs) y h)
+
+-- the item at the first place that passes
+pub record Passing {A : Type 0} (test : A → Bool) (xs : List A) (i : ℕ) : Type 0 where
+  pub item : A
+  pub at : slice_get xs i ≡ Some item
+  pub passes : test item ≡ true
+
+pub first_some : {A : Type 0} (test : A → Bool) (xs : List A) (i : ℕ) → position test xs ≡ Some i → Passing test xs i
+first_some test [] i h = absurd (none-some i h)
+first_some test (x ∷ xs) i h =
+    let r = position-Some test (x ∷ xs) i x h in
+    record { item = get_or (x ∷ xs) i x; at = slice_get-get_or (x ∷ xs) i x r.0; passes = r.1 }
+
+-- the agent whose fault is told
+pub record AgentTold (line : ℕ) (kind : AgentId → ShapeKind) (test : PAgent → Bool) (agents : List PAgent) (y : ShapeFault) : Type 0 where
+  pub number : ℕ
+  pub is : fault_on line (kind (record { 0 = number })) ≡ y
+  pub agent : PAgent
+  pub at : slice_get agents number ≡ Some agent
+  pub passes : test agent ≡ true
+
+pub agent_some : (line : ℕ) (kind : AgentId → ShapeKind) (test : PAgent → Bool) (agents : List PAgent) (y : ShapeFault) → agent_fault line kind test agents ≡ Some y → AgentTold line kind test agents y
+agent_some line kind test agents y h =
+    let a = map_some (λ n. fault_on line (kind (record { 0 = n }))) (position test agents) y h in
+    let r = first_some test agents a.0 a.1 in
+    record { number = a.0; is = a.2; agent = r.item; at = r.at; passes = r.passes }
+
+-- an item of the first of two lists, and one of the second
+front_at : {A : Type 0} (xs ys : List A) (i : ℕ) (x : A) → slice_get xs i ≡ Some x → slice_get (xs ++ ys) i ≡ Some x
+front_at [] ys i x h = absurd (none-some x h)
+front_at (z ∷ xs) ys zero x h = h
+front_at (z ∷ xs) ys (suc i) x h = front_at xs ys i x h
+
+back_at : {A : Type 0} (xs ys : List A) (i : ℕ) → slice_get (xs ++ ys) (length xs + i) ≡ slice_get ys i
+back_at [] ys i = let none : 0 + i ≡ i = omega arith in ap (slice_get ys) none
+back_at (z ∷ xs) ys i =
+    let more : length (z ∷ xs) + i ≡ suc (length xs + i) = omega arith in
+    ap (slice_get (z ∷ (xs ++ ys))) more ∙ back_at xs ys i
+
+-- the outcome of which something is given, where atoms are numbered from n on, and outcomes from o on
+record OutFrom (give : PAtom → ℕ → POut → Option ShapeFault) (n o : ℕ) (atoms : List PAtom) (y : ShapeFault) : Type 0 where
+  pub place : ℕ
+  pub atom : PAtom
+  pub at : slice_get atoms place ≡ Some atom
+  pub number : ℕ
+  pub out : POut
+  pub there : slice_get (outs_from n (map atom_content atoms)) number ≡ Some (placed_at (n + place) (out_content out))
+  pub gives : give atom (o + number) out ≡ Some y
+
+-- the same, where they are numbered from 0 on
+pub record OutFound (give : PAtom → ℕ → POut → Option ShapeFault) (atoms : List PAtom) (y : ShapeFault) : Type 0 where
+  pub place : ℕ
+  pub atom : PAtom
+  pub at : slice_get atoms place ≡ Some atom
+  pub number : ℕ
+  pub out : POut
+  pub there : slice_get (outs_from 0 (map atom_content atoms)) number ≡ Some (placed_at place (out_content out))
+  pub gives : give atom number out ≡ Some y
+
+-- a search that goes through the outcomes of atoms
+module _ (give : PAtom → ℕ → POut → Option ShapeFault) (look : ℕ → List PAtom → Option ShapeFault) (ends : (o : ℕ) → look o [] ≡ None)
+    (goes : (o : ℕ) (atom : PAtom) (atoms : List PAtom) → look o (atom ∷ atoms) ≡ option_or (first_numbered (λ i out. give atom (o + i) out) 0 atom.outs) (look (o + length atom.outs) atoms)) where
+  own_out : (n o : ℕ) (x : PAtom) (atoms : List PAtom) (y : ShapeFault) → Found (λ i out. give x (o + i) out) x.outs y → OutFrom give n o (x ∷ atoms) y
+  own_out n o x atoms y r =
+      let here : n ≡ n + 0 = omega arith in
+      let own : slice_get (map (placed_at n) (map out_content x.outs)) r.place ≡ Some (placed_at (n + 0) (out_content r.item)) =
+      slice_get-map (placed_at n) (map out_content x.outs) r.place
+      ∙ ap (option_map (placed_at n)) (slice_get-map out_content x.outs r.place ∙ ap (option_map out_content) r.at)
+      ∙ ap (λ m. Some (placed_at m (out_content r.item))) here in
+      record {
+        place = 0;
+        atom = x;
+        at = refl;
+        number = r.place;
+        out = r.item;
+        there = front_at (map (placed_at n) (map out_content x.outs)) (outs_from (n + 1) (map atom_content atoms)) r.place (placed_at (n + 0) (out_content r.item)) own;
+        gives = r.gives;
+      }
+
+  later_out : (n o : ℕ) (x : PAtom) (atoms : List PAtom) (y : ShapeFault) → OutFrom give (n + 1) (o + length x.outs) atoms y → OutFrom give n o (x ∷ atoms) y
+  later_out n o x atoms y r =
+      let own = map (placed_at n) (map out_content x.outs) in
+      let long : length own ≡ length x.outs = length-map (map out_content x.outs) (placed_at n) ∙ length-map x.outs out_content in
+      let next : n + 1 + r.place ≡ n + suc r.place = omega arith in
+      let same : o + length x.outs + r.number ≡ o + (length x.outs + r.number) = omega arith in
+      record {
+        place = suc r.place;
+        atom = r.atom;
+        at = r.at;
+        number = length x.outs + r.number;
+        out = r.out;
+        there = ap (λ m. slice_get (outs_from n (map atom_content (x ∷ atoms))) (m + r.number)) (sym long)
+            ∙ back_at own (outs_from (n + 1) (map atom_content atoms)) r.number
+            ∙ r.there
+            ∙ ap (λ m. Some (placed_at m (out_content r.out))) next;
+        gives = subst (λ m. give r.atom m r.out ≡ Some y) same r.gives;
+      }
+
+  out_from : (n o : ℕ) (atoms : List PAtom) (y : ShapeFault) → look o atoms ≡ Some y → OutFrom give n o atoms y
+  out_from n o [] y h = absurd (none-some y (sym (ends o) ∙ h))
+  out_from n o (x ∷ atoms) y h =
+      ⊎_elim
+      (λ e. own_out n o x atoms y (numbered_some (λ i out. give x (o + i) out) x.outs y e))
+      (λ e. later_out n o x atoms y (out_from (n + 1) (o + length x.outs) atoms y e.1))
+      (or_some (first_numbered (λ i out. give x (o + i) out) 0 x.outs) (look (o + length x.outs) atoms) y (sym (goes o x atoms) ∙ h))
+
+  pub out_some : (atoms : List PAtom) (y : ShapeFault) → look 0 atoms ≡ Some y → OutFound give atoms y
+  out_some atoms y h =
+      let r = out_from 0 0 atoms y h in
+      let here : 0 + r.place ≡ r.place = omega arith in
+      let same : 0 + r.number ≡ r.number = omega arith in
+      record {
+        place = r.place;
+        atom = r.atom;
+        at = r.at;
+        number = r.number;
+        out = r.out;
+        there = r.there ∙ ap (λ m. Some (placed_at m (out_content r.out))) here;
+        gives = subst (λ m. give r.atom m r.out ≡ Some y) same r.gives;
+      }
