@@ -80,7 +80,7 @@ module _ (P : List ℕ → Type 0) (word : Word) where
       set_has r.item r.passes (all_slice (λ (x : PSet). All P (shaped.set_names (set_content x))) sets r.place r.item
       (All-unmap (λ (x : SetContent). All P (shaped.set_names x)) set_content sets (All-each P shaped.set_names (map set_content sets) h)) r.at)
 
-  case_has : (c : PCase) → case_names word c ≡ true → All P (shaped.case_names (case_content c)) → P word.text
+  pub case_has : (c : PCase) → case_names word c ≡ true → All P (shaped.case_names (case_content c)) → P word.text
   case_has c t h =
       let tests = flat_map shaped.test_names (map test_content c.tests) in
       let sets = flat_map shaped.set_names (map set_content c.sets) in

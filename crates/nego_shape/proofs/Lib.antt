@@ -40,3 +40,4 @@ pub mod Tellings
 pub mod Ranks
 pub mod KindRanks
 pub mod FirstBroken
+pub mod ToldFaults

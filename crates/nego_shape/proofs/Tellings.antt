@@ -1,6 +1,6 @@
 -- What a search that finds something tells of what it found.
-use Rattle.std.proofs.Common.{◌≡◌, ◌⊎◌, ⊎_elim, inl, inr, ℕ, zero, suc, ◌+◌, Bool, true, false, cond, List, [], ◌∷◌, ◌++◌, length, map, get_or, Option, Some, None, slice_get, refl, sym, subst, ap, ◌∙◌, arith}
-use Rattle.std.proofs.lemmas.Option.{same_Some, none-some, slice_get-map, slice_get-get_or}
+use Rattle.std.proofs.Common.{◌≡◌, ◌⊎◌, ⊎_elim, inl, inr, ℕ, zero, suc, ◌+◌, ◌<◌, Bool, true, false, cond, List, [], ◌∷◌, ◌++◌, length, map, take, get_or, Option, Some, None, slice_get, refl, sym, subst, ap, ◌∙◌, arith}
+use Rattle.std.proofs.lemmas.Option.{same_Some, none-some, slice_get-map, slice_get-get_or, get_or_from_slice_get}
 use Rattle.std.proofs.lemmas.List.{length-map}
 use Rattle.std.proofs.lemmas.List.Quantifiers.{position-Some}
 use Rattle.std.specs.List.{position}
@@ -16,6 +16,7 @@ use Rattle.nego_shape.specs.Firsts.{first_among, first_numbered}
 use Rattle.nego_shape.specs.Naming.{outs_from}
 use Rattle.nego_shape.specs.Made.{placed_at}
 use Rattle.nego_shape.specs.Faults.{fault_on, agent_fault}
+use Rattle.nego_shape.proofs.FaultlessSearches.{both_none}
 
 -- which of two gives
 pub or_some : {A : Type 0} (o rest : Option A) (x : A) → option_or o rest ≡ Some x → (o ≡ Some x) ⊎ ((o ≡ None) × (rest ≡ Some x))
@@ -30,12 +31,13 @@ pub if_some : {A : Type 0} (t : Bool) (x y : A) → cond t (Some x) None ≡ Som
 if_some true x y h = (refl, same_Some x y h)
 if_some false x y h = absurd (none-some y h)
 
--- the item of which something is given, where items are numbered from n on
+-- the first item of which something is given, where items are numbered from n on
 record FoundFrom {A B : Type 0} (f : ℕ → A → Option B) (n : ℕ) (xs : List A) (y : B) : Type 0 where
   pub place : ℕ
   pub item : A
   pub at : slice_get xs place ≡ Some item
   pub gives : f (n + place) item ≡ Some y
+  pub before : first_numbered f n (take place xs) ≡ None
 
 numbered_from : {A B : Type 0} (f : ℕ → A → Option B) (n : ℕ) (xs : List A) (y : B) → first_numbered f n xs ≡ Some y → FoundFrom f n xs y
 unfolding first_numbered
@@ -43,11 +45,17 @@ numbered_from f n [] y h = absurd (none-some y h)
 numbered_from f n (x ∷ xs) y h =
     let here : n ≡ n + 0 = omega arith in
     ⊎_elim
-    (λ e. record { place = 0; item = x; at = refl; gives = subst (λ m. f m x ≡ Some y) here e })
+    (λ e. record { place = 0; item = x; at = refl; gives = subst (λ m. f m x ≡ Some y) here e; before = refl })
     (λ e.
     let r = numbered_from f (n + 1) xs y e.1 in
     let there : n + 1 + r.place ≡ n + suc r.place = omega arith in
-    record { place = suc r.place; item = r.item; at = r.at; gives = subst (λ m. f m r.item ≡ Some y) there r.gives })
+    record {
+      place = suc r.place;
+      item = r.item;
+      at = r.at;
+      gives = subst (λ m. f m r.item ≡ Some y) there r.gives;
+      before = both_none (f n x) (first_numbered f (n + 1) (take r.place xs)) e.0 r.before;
+    })
     (or_some (f n x) (first_numbered f (n + 1) xs) y h)
 
 -- the same, where they are numbered from 0 on
@@ -56,33 +64,40 @@ pub record Found {A B : Type 0} (f : ℕ → A → Option B) (xs : List A) (y : 
   pub item : A
   pub at : slice_get xs place ≡ Some item
   pub gives : f place item ≡ Some y
+  pub before : first_numbered f 0 (take place xs) ≡ None
 
 pub numbered_some : {A B : Type 0} (f : ℕ → A → Option B) (xs : List A) (y : B) → first_numbered f 0 xs ≡ Some y → Found f xs y
 numbered_some f xs y h =
     let r = numbered_from f 0 xs y h in
     let here : 0 + r.place ≡ r.place = omega arith in
-    record { place = r.place; item = r.item; at = r.at; gives = subst (λ m. f m r.item ≡ Some y) here r.gives }
+    record { place = r.place; item = r.item; at = r.at; gives = subst (λ m. f m r.item ≡ Some y) here r.gives; before = r.before }
+
+-- numbers may be left out
+among_numbered : {A B : Type 0} (f : A → Option B) (n : ℕ) (xs : List A) → first_numbered (λ i x. f x) n xs ≡ first_among f xs
+unfolding first_among first_numbered
+among_numbered f n [] = refl
+among_numbered f n (x ∷ xs) = ap (option_or (f x)) (among_numbered f (n + 1) xs)
 
 pub among_some : {A B : Type 0} (f : A → Option B) (xs : List A) (y : B) → first_among f xs ≡ Some y → Found (λ i x. f x) xs y
-unfolding first_among
-among_some f [] y h = absurd (none-some y h)
-among_some f (x ∷ xs) y h =
-    ⊎_elim
-    (λ e. record { place = 0; item = x; at = refl; gives = e })
-    (λ e. let r = among_some f xs y e.1 in record { place = suc r.place; item = r.item; at = r.at; gives = r.gives })
-    (or_some (f x) (first_among f xs) y h)
+among_some f xs y h = numbered_some (λ i x. f x) xs y (among_numbered f 0 xs ∙ h)
 
 -- the item at the first place that passes
 pub record Passing {A : Type 0} (test : A → Bool) (xs : List A) (i : ℕ) : Type 0 where
   pub item : A
   pub at : slice_get xs i ≡ Some item
   pub passes : test item ≡ true
+  pub before : (k : ℕ) (other : A) → slice_get xs k ≡ Some other → k < i → test other ≡ false
 
 pub first_some : {A : Type 0} (test : A → Bool) (xs : List A) (i : ℕ) → position test xs ≡ Some i → Passing test xs i
 first_some test [] i h = absurd (none-some i h)
 first_some test (x ∷ xs) i h =
     let r = position-Some test (x ∷ xs) i x h in
-    record { item = get_or (x ∷ xs) i x; at = slice_get-get_or (x ∷ xs) i x r.0; passes = r.1 }
+    record {
+      item = get_or (x ∷ xs) i x;
+      at = slice_get-get_or (x ∷ xs) i x r.0;
+      passes = r.1;
+      before = λ k other at l. subst (λ z. test z ≡ false) (get_or_from_slice_get (x ∷ xs) k other x at) (r.2 k l);
+    }
 
 -- the agent whose fault is told
 pub record AgentTold (line : ℕ) (kind : AgentId → ShapeKind) (test : PAgent → Bool) (agents : List PAgent) (y : ShapeFault) : Type 0 where
@@ -91,12 +106,13 @@ pub record AgentTold (line : ℕ) (kind : AgentId → ShapeKind) (test : PAgent 
   pub agent : PAgent
   pub at : slice_get agents number ≡ Some agent
   pub passes : test agent ≡ true
+  pub before : (k : ℕ) (other : PAgent) → slice_get agents k ≡ Some other → k < number → test other ≡ false
 
 pub agent_some : (line : ℕ) (kind : AgentId → ShapeKind) (test : PAgent → Bool) (agents : List PAgent) (y : ShapeFault) → agent_fault line kind test agents ≡ Some y → AgentTold line kind test agents y
 agent_some line kind test agents y h =
     let a = map_some (λ n. fault_on line (kind (record { 0 = n }))) (position test agents) y h in
     let r = first_some test agents a.0 a.1 in
-    record { number = a.0; is = a.2; agent = r.item; at = r.at; passes = r.passes }
+    record { number = a.0; is = a.2; agent = r.item; at = r.at; passes = r.passes; before = r.before }
 
 -- an item of the first of two lists, and one of the second
 front_at : {A : Type 0} (xs ys : List A) (i : ℕ) (x : A) → slice_get xs i ≡ Some x → slice_get (xs ++ ys) i ≡ Some x

@@ -9,4 +9,5 @@ pub mod Made
 pub mod Naming
 pub mod Ordering
 pub mod Shaped
+pub mod Told
 pub mod Walks

@@ -8,6 +8,7 @@ ghost use Rattle.nego_shape.specs.Broken.{IsFirstBroken};
 ghost use Rattle.nego_shape.specs.Faults.{shape_fault};
 ghost use Rattle.nego_shape.specs.Laws.{OneOrderIsTold, OneCycleIsFound, SizeFaultsAreThoseOfSizes};
 ghost use Rattle.nego_shape.specs.Shaped.{IsShaped};
+ghost use Rattle.nego_shape.specs.Told.{IsSo};
 
 /// A negotiation has at most one order that can be told.
 pub fn one_order_is_told()
@@ -30,7 +31,9 @@ pub fn size_faults_are_those_of_sizes()
     ensures { SizeFaultsAreThoseOfSizes }
 {}
 
-/// A told fault of shape is of the first kind, in the order of the kinds, whose condition the text's content breaks.
+/// A told fault of shape is of the first kind, in the order of the kinds, whose condition the text's content breaks; and
+/// what its numbers say of the content is so.
 pub fn told_faults_are_the_first_broken()
-    ensures { (p : Parsed) (fault : ShapeFault) → shape_fault p ≡ Some fault → IsFirstBroken (content_of p) fault.kind }
+    ensures first { (p : Parsed) (fault : ShapeFault) → shape_fault p ≡ Some fault → IsFirstBroken (content_of p) fault.kind }
+    ensures so { (p : Parsed) (fault : ShapeFault) → shape_fault p ≡ Some fault → IsSo (content_of p) fault.kind }
 {}

@@ -1,0 +1,58 @@
+-- What the numbers that a fault of shape tells say of a text's content.
+use Rattle.std.specs.Prelude.{◌≡◌, ◌≢◌, ℕ, ◌<◌, Bool, List, [], length, take, slice_get, slice_index, Some, All, IsTrue, ⊤}
+use Rattle.std.specs.List.{list_any}
+use Rattle.nego_base.specs.Members.{is_in}
+use Rattle.nego_data.specs.declared.joint_data.SizeFault.TheVariants as faults
+use Rattle.nego_data.specs.Sizes.{HasFault}
+use Rattle.nego_data.specs.CaseForm.{FitsSize, IsFirstUncovered}
+use Rattle.nego_reader.specs.Content.{Content, CaseContent}
+use Rattle.nego_shape.specs.declared.fault.ShapeKind.{ShapeKind}
+use Rattle.nego_shape.specs.declared.fault.ShapeKind.TheVariants as kinds
+use Rattle.nego_shape.specs.Naming.{places_of, agent_names, sizes_in, all_outs, cases_in, leads_to}
+use Rattle.nego_shape.specs.Shaped.{IsParty, IsSent, first_number, last_number, case_names}
+
+-- the list has an item at this place, of which this holds
+abbrev pub HasAt : {A : Type 0} → List A → ℕ → (A → Type 0) → Type 0
+HasAt {A} xs i P = (x : A) × (slice_get xs i ≡ Some x) × P x
+
+-- the same, and it holds of none before it
+abbrev pub HasFirstAt : {A : Type 0} → List A → ℕ → (A → Type 0) → Type 0
+HasFirstAt {A} xs i P = (x : A) × (slice_get xs i ≡ Some x) × P x × All (λ other. ¬ P other) (take i xs)
+
+-- the list has an item of which this holds
+abbrev pub HasSome : {A : Type 0} → List A → (A → Type 0) → Type 0
+HasSome xs P = (i : ℕ) × HasAt xs i P
+
+-- agent a is one of those that a case names
+abbrev pub is_named : Content → ℕ → CaseContent → Bool
+is_named c a case = is_in a (places_of (case_names case) (agent_names c))
+
+-- What a fault of this kind tells of the content is so:
+-- the atom is the first that has no party, or that has no outcome;
+-- the agent is the least that is no party of the first atom, or of the last;
+-- the outcome is of another atom than the last, the agent is a party of it, and stands on none of the outcome's next lines;
+-- the agent stands on a next line of the outcome for this atom, and isn't a party of both this and the outcome's atom;
+-- the outcome is of the last atom, and has a next line;
+-- the agent stands in a case of the outcome, and is no party of its atom;
+-- the sizes have this fault;
+-- a case of the outcome assigns the agent a number that isn't below its size;
+-- the joint data are the least that no case of the outcome covers.
+abbrev pub IsSo : Content → ShapeKind → Type 0
+IsSo c kinds.NoAgent = ⊤
+IsSo c (kinds.TooMany what) = ⊤
+IsSo c (kinds.Twice name) = ⊤
+IsSo c (kinds.Unknown name) = ⊤
+IsSo c (kinds.NoParty n) = HasFirstAt c.atoms n.0 (λ atom. atom.parties ≡ [])
+IsSo c (kinds.NoOutcome n) = HasFirstAt c.atoms n.0 (λ atom. atom.outs ≡ [])
+IsSo c (kinds.FirstLacks a) = (a.0 < length c.agents) × (¬ IsParty c (first_number c) a.0) × ((b : ℕ) → b < a.0 → IsParty c (first_number c) b)
+IsSo c (kinds.LastLacks a) = (a.0 < length c.agents) × (¬ IsParty c (last_number c) a.0) × ((b : ℕ) → b < a.0 → IsParty c (last_number c) b)
+IsSo c (kinds.NextMissing o a) = HasAt (all_outs c) o.0 (λ placed. (placed.atom ≢ last_number c) × IsParty c placed.atom a.0 × (¬ IsSent c placed.out.nexts a.0))
+IsSo c (kinds.NextStranger o a n) = HasAt (all_outs c) o.0 (λ placed. IsTrue (list_any (leads_to c a.0 n.0) placed.out.nexts) × (¬ (IsParty c placed.atom a.0 × IsParty c n.0 a.0)))
+IsSo c (kinds.LastLeads o) = HasAt (all_outs c) o.0 (λ placed. (placed.atom ≡ last_number c) × (placed.out.nexts ≢ []))
+IsSo c (kinds.NotParty o a) = HasAt (all_outs c) o.0 (λ placed. IsTrue (list_any (is_named c a.0) placed.out.cases) × (¬ IsParty c placed.atom a.0))
+IsSo c (kinds.ZeroSize a) = HasFault (sizes_in c) (faults.ZeroSize a)
+IsSo c (kinds.SizeTooLarge a) = HasFault (sizes_in c) (faults.SizeTooLarge a)
+IsSo c (kinds.JointTooLarge a) = HasFault (sizes_in c) (faults.JointTooLarge a)
+IsSo c (kinds.ValueTooLarge o a) =
+    HasAt (all_outs c) o.0 (λ placed. HasSome (cases_in c placed.out) (λ case. HasSome case.sets (λ set. (set.agent.0 ≡ a.0) × (¬ FitsSize set.term (slice_index (sizes_in c) a.0)))))
+IsSo c (kinds.NotTotal o d) = HasAt (all_outs c) o.0 (λ placed. IsFirstUncovered (sizes_in c) (cases_in c placed.out) d)
