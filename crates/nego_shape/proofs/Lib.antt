@@ -40,4 +40,5 @@ pub mod Tellings
 pub mod Ranks
 pub mod KindRanks
 pub mod FirstBroken
+pub mod ToldUnknown
 pub mod ToldFaults

@@ -53,13 +53,10 @@ use Rattle.nego_shape.proofs.FaultlessSearches.{any_passes}
 use Rattle.nego_shape.proofs.FaultlessPlaces.{agent_place, party_named, sent_named}
 use Rattle.nego_shape.proofs.FaultlessCases.{case_has}
 use Rattle.nego_shape.proofs.FaultlessSizes.{size_faults}
-use Rattle.nego_shape.proofs.Tellings.{map_some, if_some, numbered_some, among_some, agent_some, OutFound}
+use Rattle.nego_shape.proofs.ToldUnknown.{told_unknown}
+use Rattle.nego_shape.proofs.Tellings.{not_so, map_some, if_some, numbered_some, among_some, agent_some, OutFound}
 use Rattle.nego_shape.proofs.KindRanks.{check, breach, partial, all_made}
 use Rattle.nego_shape.proofs.FirstBroken.{NoneBelow, once_below, known_below, declared_below}
-
-not_so : (t : Bool) → not t ≡ true → t ≡ true → ⊥
-not_so true h e = false≢true h
-not_so false h e = false≢true e
 
 -- a list of no length is mapped to none, and one with a first item isn't
 empty : {A B : Type 0} (f : A → B) (xs : List A) → (length xs == 0) ≡ true → map f xs ≡ []
@@ -338,7 +335,7 @@ module _ (p : Parsed) where
   tells (kinds.TooMany many.Outcomes) none x h =
       let r = map_some (λ (word : Word). fault_on word.line (kinds.TooMany many.Outcomes)) (slice_get (out_names p.atoms) 256) x h in subst Tells r.2 tt
   tells (kinds.Twice name) none x h = let r = map_some (λ (word : Word). fault_on word.line (kinds.Twice word.text)) (twice_in p) x h in subst Tells r.2 tt
-  tells (kinds.Unknown name) none x h = let r = map_some (λ (word : Word). fault_on word.line (kinds.Unknown word.text)) (unknown_in p) x h in subst Tells r.2 tt
+  tells (kinds.Unknown name) none x h = let r = map_some (λ (word : Word). fault_on word.line (kinds.Unknown word.text)) (unknown_in p) x h in subst Tells r.2 (told_unknown p r.0 r.1)
   tells (kinds.NoParty n) none x h = party_tells x h
   tells (kinds.NoOutcome n) none x h = outcome_tells x h
   tells (kinds.FirstLacks a) none x h = first_tells (once_below p 8 (lit< tt) none) (declared_below p 8 (lit< tt) none) x h

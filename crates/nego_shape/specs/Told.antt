@@ -1,15 +1,15 @@
 -- What the numbers that a fault of shape tells say of a text's content.
-use Rattle.std.specs.Prelude.{◌≡◌, ◌≢◌, ℕ, ◌<◌, Bool, List, [], length, take, slice_get, slice_index, Some, All, IsTrue, ⊤}
-use Rattle.std.specs.List.{list_any}
+use Rattle.std.specs.Prelude.{◌≡◌, ◌≢◌, ◌⊎◌, ℕ, ◌<◌, Bool, List, [], ◌∷◌, ◌++◌, length, map, take, slice_get, slice_index, Some, All, IsTrue, ⊤}
+use Rattle.std.specs.List.{list_any, flat_map, Contains}
 use Rattle.nego_base.specs.Members.{is_in}
 use Rattle.nego_data.specs.declared.joint_data.SizeFault.TheVariants as faults
 use Rattle.nego_data.specs.Sizes.{HasFault}
 use Rattle.nego_data.specs.CaseForm.{FitsSize, IsFirstUncovered}
-use Rattle.nego_reader.specs.Content.{Content, CaseContent}
+use Rattle.nego_reader.specs.Content.{Content, OutContent, CaseContent}
 use Rattle.nego_shape.specs.declared.fault.ShapeKind.{ShapeKind}
 use Rattle.nego_shape.specs.declared.fault.ShapeKind.TheVariants as kinds
-use Rattle.nego_shape.specs.Naming.{places_of, agent_names, sizes_in, all_outs, cases_in, leads_to}
-use Rattle.nego_shape.specs.Shaped.{IsParty, IsSent, first_number, last_number, case_names}
+use Rattle.nego_shape.specs.Naming.{places_of, agent_names, atom_names, sizes_in, all_outs, cases_in, leads_to}
+use Rattle.nego_shape.specs.Shaped.{IsDeclared, IsParty, IsSent, first_number, last_number, case_names}
 
 -- the list has an item at this place, of which this holds
 abbrev pub HasAt : {A : Type 0} → List A → ℕ → (A → Type 0) → Type 0
@@ -27,7 +27,22 @@ HasSome xs P = (i : ℕ) × HasAt xs i P
 abbrev pub is_named : Content → ℕ → CaseContent → Bool
 is_named c a case = is_in a (places_of (case_names case) (agent_names c))
 
+-- the names that an outcome uses as agents' names, and as atoms' names
+abbrev pub agents_of_out : OutContent → List (List ℕ)
+agents_of_out out = flat_map case_names out.cases ++ flat_map (λ next. next.agents) out.nexts
+
+abbrev pub atoms_of_out : OutContent → List (List ℕ)
+atoms_of_out out = map (λ next. next.atom) out.nexts
+
+-- the names that the content uses as agents' names, and as atoms' names
+abbrev pub used_agents : Content → List (List ℕ)
+used_agents c = flat_map (λ atom. atom.parties ++ flat_map agents_of_out atom.outs) c.atoms
+
+abbrev pub used_atoms : Content → List (List ℕ)
+used_atoms c = flat_map (λ atom. flat_map atoms_of_out atom.outs) c.atoms ++ (c.first ∷ c.last ∷ [])
+
 -- What a fault of this kind tells of the content is so:
+-- the name is used as an agent's, and no agent has it, or as an atom's, and no atom has it;
 -- the atom is the first that has no party, or that has no outcome;
 -- the agent is the least that is no party of the first atom, or of the last;
 -- the outcome is of another atom than the last, the agent is a party of it, and stands on none of the outcome's next lines;
@@ -41,7 +56,7 @@ abbrev pub IsSo : Content → ShapeKind → Type 0
 IsSo c kinds.NoAgent = ⊤
 IsSo c (kinds.TooMany what) = ⊤
 IsSo c (kinds.Twice name) = ⊤
-IsSo c (kinds.Unknown name) = ⊤
+IsSo c (kinds.Unknown name) = (Contains (used_agents c) name × (¬ IsDeclared (agent_names c) name)) ⊎ (Contains (used_atoms c) name × (¬ IsDeclared (atom_names c) name))
 IsSo c (kinds.NoParty n) = HasFirstAt c.atoms n.0 (λ atom. atom.parties ≡ [])
 IsSo c (kinds.NoOutcome n) = HasFirstAt c.atoms n.0 (λ atom. atom.outs ≡ [])
 IsSo c (kinds.FirstLacks a) = (a.0 < length c.agents) × (¬ IsParty c (first_number c) a.0) × ((b : ℕ) → b < a.0 → IsParty c (first_number c) b)
