@@ -6,6 +6,7 @@ pub mod WordLaws
 pub mod Found
 pub mod Said
 pub mod NarrowWorks
+pub mod NarrowOrder
 pub mod NarrowUses
 pub mod UsesLead
 pub mod NarrowFresh

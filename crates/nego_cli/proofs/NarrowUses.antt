@@ -13,6 +13,7 @@ use Rattle.nego_expr.proofs.AddedNodes.{length-nodes_then}
 use Rattle.nego_expr.proofs.WorkEdits.{All-found, found-number, All-with_outcome, All-without_outcome, length-with_nodes_from, All-with_nodes_from, All-at_place, atoms-filter}
 use Rattle.nego_cli.specs.NarrowWork.{IsNarrow}
 use Rattle.nego_cli.specs.Order.{IsNextUse, after_use}
+use Rattle.nego_cli.proofs.NarrowOrder.{no_next_iteration, no_next_shortcut}
 use Rattle.nego_cli.proofs.NarrowWorks.{FoundTwo, found_two, may_close, merged_is, closed_is, atom_is_last, passing_at_most, fewer_without}
 
 -- how much there is to be done: the alive outcomes and the atoms that are left
@@ -124,9 +125,9 @@ module _ (work : PlainWork) (ok : IsWork work) (narrow : IsNarrow work) where
   next_leaves (Merge o1 o2) h =
       let t = found_two work o1 o2 h.allowed in
       subst (LeavesLess work) (sym (merged_is work o1 o2 t.0 t.1 t.2)) (merge_leaves o1 o2 t.0 t.1 t.2)
-  next_leaves (Iterate o) h = absurd h
-  next_leaves (Shortcut o n) h = absurd h
-  next_leaves Close h = let x = closed_is work h.1 in subst (LeavesLess work) (sym x.1) (close_leaves x.0 h.1)
+  next_leaves (Iterate o) h = absurd (no_next_iteration work ok narrow o h)
+  next_leaves (Shortcut o n) h = absurd (no_next_shortcut work ok narrow o n h)
+  next_leaves Close h = let x = closed_is work h.3 in subst (LeavesLess work) (sym x.1) (close_leaves x.0 h.3)
 
   -- an allowed merge makes no node too many
   pub merge_has_room : (o1 o2 : ℕ) → IsTrue (can_merge work o1 o2) → length work.nodes + 1 ≤ most_nodes

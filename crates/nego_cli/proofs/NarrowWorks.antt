@@ -1,4 +1,4 @@
--- Narrow works: the next use is there until one atom is left, each use leaves a narrow work, and none makes too many nodes.
+-- Narrow works: what the guards say of them, and that closing is allowed where two atoms are left and no merge is.
 use Rattle.std.proofs.Common.{◌≡◌, ◌≢◌, ◌⊎◌, inl, inr, ⊎_elim, ℕ, suc, ◌+◌, ◌<◌, ◌≤◌, Bool, true, false, not, ◌==◌, ◌&&◌, cond, List, [], ◌∷◌, length, map, slice_index_or, Option, Some, None, IsTrue, refl, sym, subst, ap, ◌∙◌, arith, eq-eqb, ne_eqb, eqb-true}
 use Rattle.std.specs.Prelude.{nat_lt, filter}
 use Rattle.std.specs.List.{All, list_all, range_with_len}
@@ -10,22 +10,22 @@ use Rattle.std.proofs.lemmas.List.Elements.{All-head, All-tail, All-filter, filt
 use Rattle.nego_base.specs.Members.{is_in, RisesFrom}
 use Rattle.nego_base.proofs.Members.{is_in_none, is_in_single, is_in-range_zero, all_from}
 use Rattle.nego_expr.specs.Work.{WorkOutcome, PlainWork, outcome_among, outcome_at, work_parties, sent_to, IsWork}
-use Rattle.nego_expr.specs.Use.{Merge, Iterate, Shortcut, Close, same_target, merges, can_merge, merged, merged_of, without_outcome, outcomes_at, one_sends_all, can_close, closed, closed_by, closed_of}
+use Rattle.nego_expr.specs.Use.{same_target, merges, can_merge, merged, merged_of, without_outcome, outcomes_at, one_sends_all, can_close, closed, closed_by, closed_of}
 use Rattle.nego_expr.proofs.Alive.{each_found}
 use Rattle.nego_expr.proofs.WorkEdits.{numbers_of, All-found, found_cases, rises-passing}
 use Rattle.nego_cli.specs.NarrowWork.{IsNarrow}
-use Rattle.nego_cli.specs.Order.{HasNoMerge, HasNoNextUse, IsDone}
+use Rattle.nego_cli.specs.Order.{HasNoMerge}
 
 -- ---- lists
 
 -- members of a list of one are the same
-same_of_one : (xs : List ℕ) (a b : ℕ) → length xs ≡ 1 → IsTrue (is_in a xs) → IsTrue (is_in b xs) → a ≡ b
+pub same_of_one : (xs : List ℕ) (a b : ℕ) → length xs ≡ 1 → IsTrue (is_in a xs) → IsTrue (is_in b xs) → a ≡ b
 same_of_one [] a b l h k = absurd (is_in_none a [] refl h)
 same_of_one (x ∷ []) a b l h k = is_in_single a x h ∙ sym (is_in_single b x k)
 same_of_one (x ∷ y ∷ ys) a b l h k = absurd (let no_more : ⊥ = omega (arith, l) in no_more)
 
 -- a list of which two members differ has two items
-two_members : (xs : List ℕ) (a b : ℕ) → a ≢ b → IsTrue (is_in a xs) → IsTrue (is_in b xs) → 2 ≤ length xs
+pub two_members : (xs : List ℕ) (a b : ℕ) → a ≢ b → IsTrue (is_in a xs) → IsTrue (is_in b xs) → 2 ≤ length xs
 two_members [] a b other h k = absurd (is_in_none a [] refl h)
 two_members (x ∷ []) a b other h k = absurd (other (is_in_single a x h ∙ sym (is_in_single b x k)))
 two_members (x ∷ y ∷ ys) a b other h k = omega arith
@@ -106,13 +106,6 @@ pub atom_is_last : (work : PlainWork) (o : ℕ) (x : WorkOutcome) → IsWork wor
 atom_is_last work o x ok one h =
     same_of_one (map (λ atom. atom.number) work.atoms) x.atom work.last (length-map work.atoms (λ atom. atom.number) ∙ one)
     (All-found (λ z. IsTrue (is_in z.atom (map (λ atom. atom.number) work.atoms))) work.outcomes o x ok.own_atom h) ok.form.last_there
-
--- where one atom is left, no use is the next one
-pub one_atom_no_use : (work : PlainWork) → IsWork work → length work.atoms ≡ 1 → HasNoNextUse work
-one_atom_no_use work ok one (Merge o1 o2) h = let t = found_two work o1 o2 h.allowed in t.2.not_last (atom_is_last work o1 t.0 ok one t.2.first)
-one_atom_no_use work ok one (Iterate o) h = h
-one_atom_no_use work ok one (Shortcut o n) h = h
-one_atom_no_use work ok one Close h = let k : length work.atoms ≡ 2 = (may_close work h.1).two in let no_more : ⊥ = omega (arith, k, one) in no_more
 
 -- ---- until one atom is left
 
@@ -199,13 +192,3 @@ module _ (work : PlainWork) (ok : IsWork work) (narrow : IsNarrow work) where
       go [] e = absurd (ok.form.some_outcome work.first ok.form.first_there (ap numbers_of e))
       go (x ∷ []) e = one_closes x other e
       go (x ∷ y ∷ zs) e = absurd (true≢false (sym (two_merge x y zs other e) ∙ none x.number y.number))
-
-  -- where no merge is allowed and no closing, one atom is left and nothing is to be done
-  pub nothing_allowed_done : HasNoMerge work → can_close work ≡ false → IsDone work
-  nothing_allowed_done none shut =
-      let one : length work.atoms ≡ 1 = narrow.apart (first_is (cases_eq work.first work.last)) in
-      record { one_atom = one; no_use = one_atom_no_use work ok one }
-    where
-      first_is : (work.first ≡ work.last) ⊎ (work.first ≢ work.last) → work.first ≡ work.last
-      first_is (inl e) = e
-      first_is (inr other) = absurd (true≢false (sym (no_merge_closes other none) ∙ shut))

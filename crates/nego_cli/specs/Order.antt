@@ -1,8 +1,11 @@
--- The order in which rules are used: the least merge; else closing, where it is allowed.
-use Rattle.std.specs.Prelude.{◌≡◌, ◌⊎◌, ℕ, ◌<◌, ◌≤◌, false, List, [], ◌∷◌, length, IsTrue}
+-- The order in which rules are used: the least merge; else the least iteration; else the least shortcut into an atom of
+-- one outcome, which wasn't passed yet; else closing, where it is allowed.
+use Rattle.std.specs.Prelude.{◌≡◌, ◌⊎◌, ℕ, ◌<◌, ◌≤◌, Bool, false, not, ◌&&◌, ◌==◌, List, [], ◌∷◌, length, IsTrue}
+use Rattle.std.specs.Option.{option_map_or}
+use Rattle.nego_base.specs.Members.{is_in}
 use Rattle.nego_model.specs.Summary.{PlainSummary}
-use Rattle.nego_expr.specs.Work.{PlainWork}
-use Rattle.nego_expr.specs.Use.{PlainUse, Merge, Iterate, Shortcut, Close, can_merge, merged, can_close, closed, most_nodes}
+use Rattle.nego_expr.specs.Work.{PlainWork, outcome_at}
+use Rattle.nego_expr.specs.Use.{PlainUse, Merge, Iterate, Shortcut, Close, outcomes_at, can_merge, merged, can_iterate, iterated, can_shortcut, after_shortcut, can_close, closed, most_nodes}
 use Rattle.nego_expr.specs.Finish.{summary_of_work}
 
 -- One pair of numbers is below another: its first number is, or these are the same and its second number is.
@@ -14,16 +17,43 @@ pub record IsLeastMerge (work : PlainWork) (o1 o2 : ℕ) : Type 0 where
   pub allowed : IsTrue (can_merge work o1 o2)
   pub least : (p1 p2 : ℕ) → IsPairBelow p1 p2 o1 o2 → can_merge work p1 p2 ≡ false
 
+-- The iteration is allowed, and of no lesser outcome is one.
+pub record IsLeastIteration (work : PlainWork) (o : ℕ) : Type 0 where
+  pub allowed : IsTrue (can_iterate work o)
+  pub least : (p : ℕ) → p < o → can_iterate work p ≡ false
+
+-- whether the alive outcome of a number has passed the atom
+abbrev pub has_passed : PlainWork → ℕ → ℕ → Bool
+has_passed work o n = option_map_or (λ x. is_in n x.passed) (outcome_at work o) false
+
+-- whether the order takes the shortcut: it is allowed, the atom has exactly one outcome, and o hasn't passed it
+abbrev pub takes_shortcut : PlainWork → ℕ → ℕ → Bool
+takes_shortcut work o n = can_shortcut work o n && ((length (outcomes_at work n) == 1) && not (has_passed work o n))
+
+-- The order takes the shortcut, and none of a lesser pair.
+pub record IsLeastShortcut (work : PlainWork) (o n : ℕ) : Type 0 where
+  pub taken : IsTrue (takes_shortcut work o n)
+  pub least : (p m : ℕ) → IsPairBelow p m o n → takes_shortcut work p m ≡ false
+
 -- No merge is allowed.
 abbrev pub HasNoMerge : PlainWork → Type 0
 HasNoMerge work = (o1 o2 : ℕ) → can_merge work o1 o2 ≡ false
 
--- The use is the next one: the least merge; closing, where no merge is allowed and closing is.
+-- No iteration is allowed.
+abbrev pub HasNoIteration : PlainWork → Type 0
+HasNoIteration work = (o : ℕ) → can_iterate work o ≡ false
+
+-- The order takes no shortcut.
+abbrev pub HasNoShortcut : PlainWork → Type 0
+HasNoShortcut work = (o n : ℕ) → takes_shortcut work o n ≡ false
+
+-- The use is the next one: the least merge; where there is none, the least iteration; where there is none either, the
+-- least shortcut that the order takes; and where there is none of these, closing, if it is allowed.
 abbrev pub IsNextUse : PlainWork → PlainUse → Type 0
 IsNextUse work (Merge o1 o2) = IsLeastMerge work o1 o2
-IsNextUse work Close = HasNoMerge work × IsTrue (can_close work)
-IsNextUse work (Iterate o) = ⊥
-IsNextUse work (Shortcut o n) = ⊥
+IsNextUse work (Iterate o) = HasNoMerge work × IsLeastIteration work o
+IsNextUse work (Shortcut o n) = HasNoMerge work × HasNoIteration work × IsLeastShortcut work o n
+IsNextUse work Close = HasNoMerge work × HasNoIteration work × HasNoShortcut work × IsTrue (can_close work)
 
 -- No use is the next one.
 abbrev pub HasNoNextUse : PlainWork → Type 0
@@ -32,9 +62,9 @@ HasNoNextUse work = (next : PlainUse) → IsNextUse work next → ⊥
 -- the work after a use that may be the next one
 abbrev pub after_use : PlainWork → PlainUse → PlainWork
 after_use work (Merge o1 o2) = merged work o1 o2
+after_use work (Iterate o) = iterated work o
+after_use work (Shortcut o n) = after_shortcut work o n
 after_use work Close = closed work
-after_use work (Iterate o) = work
-after_use work (Shortcut o n) = work
 
 -- The uses lead from a work to another: they are made one after the other, each is the next one in its turn, and none
 -- makes the nodes more than there may be.

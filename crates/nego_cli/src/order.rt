@@ -1,4 +1,5 @@
-//! The order in which rules are used: the least merge, else closing.
+//! The order in which rules are used. In a narrow work no iteration and no shortcut is ever allowed, so the next use is
+//! the least merge, else closing.
 
 ghost use Rattle.std.specs.Prelude.{◌≡◌, ◌≢◌, ℕ, ◌<◌, false, IsTrue, IfSome, IfNone, Err, IsOk, OnOk, IfOk, map};
 ghost use Rattle.nego_model.specs.Summary.{Tells};
@@ -54,9 +55,10 @@ fn least_merge(w: &Work) -> Option<(OutcomeId, OutcomeId)>
     None
 }
 
-/// The next use.
+/// The next use of a narrow work.
 fn next_use(w: &Work) -> Option<Use>
     requires work { IsWork w.now.plain }
+    requires narrow { IsNarrow w.now.plain }
     ensures some { IfSome result (λ u. IsNextUse w.now.plain (plain_use u)) }
     ensures no_merge { IfNone result (HasNoMerge w.now.plain) }
     ensures no_closing { IfNone result (can_close w.now.plain ≡ false) }

@@ -39,5 +39,5 @@ pub returns-clause-tells : goal.returns-clause-tells
 returns-clause-tells c =
     let diagram = c.args.d.now in
     let work = c.in-Ok.work.plain in
-    let stands : StillStands work diagram = record { is_work = c.in-Ok.ensures.work; stands = c.in-Ok.ensures.stands; named = ap (λ w. w.names) c.in-Ok.ensures.ok ∙ fresh_named diagram } in
+    let stands : StillStands work diagram = record { is_work = c.in-Ok.ensures.work; narrow = subst IsNarrow (sym c.in-Ok.ensures.ok) (narrow_fresh diagram c.requires.narrow); stands = c.in-Ok.ensures.stands; named = ap (λ w. w.names) c.in-Ok.ensures.ok ∙ fresh_named diagram } in
     told diagram work c.reduce_work.result stands c.reduce_work.ensures

@@ -4,7 +4,7 @@ use Rattle.nego_expr.specs.Work.{IsWork}
 use Rattle.nego_cli.specs.NarrowWork.{IsNarrow}
 use Rattle.nego_cli.specs.Order.{IsNextUse, Leads, IsDone, after_use}
 use Rattle.nego_expr.specs.Uses.{plain_use}
-use Rattle.nego_cli.proofs.NarrowWorks.{nothing_allowed_done}
+use Rattle.nego_cli.proofs.NarrowOrder.{nothing_allowed_done}
 use Rattle.nego_cli.proofs.NarrowUses.{LeavesLess, left_to_do, next_leaves}
 use Rattle.nego_cli.proofs.UsesLead.{Leads-more, next_keeps}
 use Rattle.nego_cli.proofs.order.reduce_work.Goals as goal
@@ -27,7 +27,7 @@ loop-u-preserved c =
     let uses : map plain_use c.push.new.self ≡ map plain_use c.loop-u.uses ++ next ∷ [] = ap (map plain_use) c.in_ok-push.ensures.ok ∙ map-append plain_use c.loop-u.uses (c.in-Some.u ∷ []) in
     let leads : Leads c.args.work.plain (map plain_use c.loop-u.uses ++ next ∷ []) (after_use work next) = Leads-more c.args.work.plain (map plain_use c.loop-u.uses) work next c.loop-u.invariant.leads is_next leaves.few_nodes in
     record {
-      is_work = subst IsWork (sym is) (next_keeps work next c.loop-u.invariant.is_work is_next).0;
+      is_work = subst IsWork (sym is) (next_keeps work next c.loop-u.invariant.is_work c.loop-u.invariant.narrow is_next).0;
       narrow = subst IsNarrow (sym is) leaves.narrow;
       leads = subst (λ us. Leads c.args.work.plain us c.make_use.new.w.plain) (sym uses) (subst (Leads c.args.work.plain (map plain_use c.loop-u.uses ++ next ∷ [])) (sym is) leads);
     }
