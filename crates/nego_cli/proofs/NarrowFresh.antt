@@ -1,4 +1,4 @@
--- The fresh work of a narrow diagram is narrow.
+-- The fresh work of a narrow diagram within its limits is narrow.
 use Rattle.std.proofs.Common.{◌≡◌, ◌⊎◌, inl, inr, ⊎_elim, ℕ, suc, ◌+◌, List, [], ◌∷◌, length, map, slice_get, slice_index_or, Some, None, refl, sym, subst, ap, ◌∙◌, arith, ◌<◌, ◌≤◌}
 use Rattle.std.specs.List.{range_with_len}
 use Rattle.std.specs.Option.{option_map_or}
@@ -37,16 +37,16 @@ module _ (diagram : PlainDiagram) (narrow : IsNarrowDiagram diagram) where
   fits : (o : ℕ) (x : PlainOutcome) → slice_get diagram.outcomes o ≡ Some x → Fits x
   fits o x there = subst Fits (get_or_from_slice_get diagram.outcomes o x x there) (All-get_or Fits diagram.outcomes o x (slice_get_within diagram.outcomes o x there) narrow.sends)
 
-  pub narrow_fresh : IsNarrow (fresh_work diagram)
+  pub narrow_fresh : length diagram.outcomes ≤ 256 → IsNarrow (fresh_work diagram)
   unfolding fresh_work
-  narrow_fresh = record {
+  narrow_fresh few = record {
     few_atoms = omega (arith, length-atoms_from 0 diagram.atoms, narrow.few_atoms);
     apart = λ e. length-atoms_from 0 diagram.atoms ∙ narrow.apart e;
     sends = All-outcomes_of diagram (λ z. (z.atom ≡ diagram.last) ⊎ ((a : ℕ) → a < length diagram.agents → sent_to z a ≡ Some diagram.last)) 0 diagram.outcomes
         (λ k x there. ⊎_elim (λ e. inl e) (λ e. inr (λ a agent. sent_last (0 + k) a x (let q : 0 + k ≡ k = omega arith in subst (λ o. slice_get diagram.outcomes o ≡ Some x) (sym q) there) agent (e a agent))) (fits k x there));
     room = λ other.
         let nodes : length (map Base (range_with_len 0 (length diagram.outcomes))) ≡ length diagram.outcomes = length-map-range_with_len Base 0 (length diagram.outcomes) in
-        omega (arith, nodes, length-outcomes_of diagram 0 diagram.outcomes, narrow.few_outcomes);
+        omega (arith, nodes, length-outcomes_of diagram 0 diagram.outcomes, few);
   }
 
 -- a narrow diagram has nowhere two next atoms

@@ -10,7 +10,8 @@ use nego_model::Diagram;
 
 /// Whether the diagram is narrow.
 pub(crate) fn is_narrow(d: &Diagram) -> bool
-    ensures { IsTrue result ↔ IsNarrowDiagram d.now }
+    ensures value { IsTrue result ↔ IsNarrowDiagram d.now }
+    ensures limits { IsWithinLimits d.now }
 {
     has_few_atoms(d) && all_lead(d)
 }

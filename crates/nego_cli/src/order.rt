@@ -2,6 +2,7 @@
 //! the least merge, else closing.
 
 ghost use Rattle.std.specs.Prelude.{◌≡◌, ◌≢◌, ℕ, ◌<◌, false, IsTrue, IfSome, IfNone, Err, IsOk, OnOk, IfOk, map};
+ghost use Rattle.nego_model.specs.Limits.{IsWithinLimits};
 ghost use Rattle.nego_model.specs.Summary.{Tells};
 ghost use Rattle.nego_expr.specs.Work.{IsWork};
 ghost use Rattle.nego_expr.specs.Fresh.{fresh_work};
@@ -117,6 +118,7 @@ pub(crate) fn reduce_work(alloc: Global, mut work: Work) -> Result<Reduction, Me
 /// Reduces a narrow diagram: makes the uses of its fresh work in their order. It is sound, and the summary tells it.
 pub(crate) fn reduce_diagram(alloc: Global, d: &Diagram) -> Result<Reduction, Memory>
     requires narrow { IsNarrowDiagram d.now }
+    requires limits { IsWithinLimits d.now }
     ensures reduces { IfOk result (λ r. Reduces (fresh_work d.now) (map plain_use r.uses) (plain_summary r.summary)) }
     ensures tells { IfOk result (λ r. Tells (plain_summary r.summary) d.now) }
 {

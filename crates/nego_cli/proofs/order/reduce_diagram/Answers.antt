@@ -27,7 +27,7 @@ unreachable-requires c =
     no_more
 
 pub reduce_work-requires-clause-narrow : goal.reduce_work-requires-clause-narrow
-reduce_work-requires-clause-narrow c = subst IsNarrow (sym c.in-Ok.ensures.ok) (narrow_fresh c.args.d.now c.requires.narrow)
+reduce_work-requires-clause-narrow c = subst IsNarrow (sym c.in-Ok.ensures.ok) (narrow_fresh c.args.d.now c.requires.narrow c.requires.limits.few_outcomes)
 
 -- what is told where there is a reduction
 told : (diagram : PlainDiagram) (work : PlainWork) (result : Result Reduction Memory) → StillStands work diagram →
@@ -39,5 +39,5 @@ pub returns-clause-tells : goal.returns-clause-tells
 returns-clause-tells c =
     let diagram = c.args.d.now in
     let work = c.in-Ok.work.plain in
-    let stands : StillStands work diagram = record { is_work = c.in-Ok.ensures.work; narrow = subst IsNarrow (sym c.in-Ok.ensures.ok) (narrow_fresh diagram c.requires.narrow); stands = c.in-Ok.ensures.stands; named = ap (λ w. w.names) c.in-Ok.ensures.ok ∙ fresh_named diagram } in
+    let stands : StillStands work diagram = record { is_work = c.in-Ok.ensures.work; narrow = subst IsNarrow (sym c.in-Ok.ensures.ok) (narrow_fresh diagram c.requires.narrow c.requires.limits.few_outcomes); stands = c.in-Ok.ensures.stands; named = ap (λ w. w.names) c.in-Ok.ensures.ok ∙ fresh_named diagram } in
     told diagram work c.reduce_work.result stands c.reduce_work.ensures

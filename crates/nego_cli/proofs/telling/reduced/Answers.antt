@@ -9,5 +9,5 @@ returns-in-Err-clause-err c =
 
 pub returns-then-not-is_narrow-clause-err : goal.returns-then-not-is_narrow-clause-err
 returns-then-not-is_narrow-clause-err c =
-    wide_off c.args.d.now c.refused-then-not-is_narrow.result (c.in_default.ensures.ok) (λ narrow. (let yes = c.is_narrow.ensures.1 narrow in cc))
+    wide_off c.args.d.now c.refused-then-not-is_narrow.result (c.in_default.ensures.ok) (λ narrow. (let yes = c.is_narrow.ensures.value.1 narrow in cc))
     (c.refused-then-not-is_narrow.ensures (refusal_line NotYet) c.not_yet.ensures)
