@@ -48,27 +48,3 @@ module _ (diagram : PlainDiagram) (narrow : IsNarrowDiagram diagram) where
         let nodes : length (map Base (range_with_len 0 (length diagram.outcomes))) ≡ length diagram.outcomes = length-map-range_with_len Base 0 (length diagram.outcomes) in
         omega (arith, nodes, length-outcomes_of diagram 0 diagram.outcomes, few);
   }
-
--- a narrow diagram has nowhere two next atoms
-pub narrow_determined : (diagram : PlainDiagram) → IsDiagram diagram → IsNarrowDiagram diagram → (o a : ℕ) → o < length diagram.outcomes → a < length diagram.agents → length (nexts_of diagram o a) ≤ 1
-narrow_determined diagram ok narrow o a inside agent = at_agent (fits diagram narrow o x there)
-  where
-    nobody : PlainOutcome
-    nobody = record { name = []; atom = 0; nexts = []; table = [] }
-
-    x : PlainOutcome
-    x = slice_index_or diagram.outcomes o nobody
-
-    there : slice_get diagram.outcomes o ≡ Some x
-    there = slice_get-get_or diagram.outcomes o nobody inside
-
-    short : (nexts : List ℕ) → nexts_of diagram o a ≡ nexts → length nexts ≤ 1 → length (nexts_of diagram o a) ≤ 1
-    short nexts e h = subst (λ ns. length ns ≤ 1) (sym e) h
-
-    at_agent : (x.atom ≡ diagram.last) ⊎ ((b : ℕ) → b < length diagram.agents → slice_index_or x.nexts b [] ≡ diagram.last ∷ []) → length (nexts_of diagram o a) ≤ 1
-    at_agent (inl e) = short [] (ok.form.last_ends o a (subst (λ n. IsOutcome (negotiation_of diagram) n o) e (diagram_outcome diagram ok o x there))) (omega arith)
-    at_agent (inr e) = short (diagram.last ∷ []) (ap (λ found. option_map_or (λ outcome. slice_index_or outcome.nexts a []) found []) there ∙ e a agent) (omega arith)
-
--- so it is deterministic
-pub narrow_deterministic : (diagram : PlainDiagram) → IsDiagram diagram → IsNarrowDiagram diagram → IsDeterministic (negotiation_of diagram)
-narrow_deterministic diagram ok narrow = determined diagram ok (narrow_determined diagram ok narrow)

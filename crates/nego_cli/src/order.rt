@@ -2,21 +2,16 @@
 //! the least merge, else closing.
 
 ghost use Rattle.std.specs.Prelude.{◌≡◌, ◌≢◌, ℕ, ◌<◌, false, IsTrue, IfSome, IfNone, Err, IsOk, OnOk, IfOk, map};
-ghost use Rattle.nego_model.specs.Limits.{IsWithinLimits};
-ghost use Rattle.nego_model.specs.Summary.{Tells};
 ghost use Rattle.nego_expr.specs.Work.{IsWork};
-ghost use Rattle.nego_expr.specs.Fresh.{fresh_work};
 ghost use Rattle.nego_expr.specs.Use.{can_merge, can_close};
 ghost use Rattle.nego_expr.specs.SummaryText.{plain_summary};
 ghost use Rattle.nego_expr.specs.Uses.{plain_use};
-ghost use Rattle.nego_cli.specs.Narrow.{IsNarrowDiagram};
 ghost use Rattle.nego_cli.specs.NarrowWork.{IsNarrow};
 ghost use Rattle.nego_cli.specs.Order.{IsLeastMerge, HasNoMerge, IsNextUse, Reduces, after_use};
 
 use nego_base::{Memory, OutcomeId};
-use nego_expr::{RuleFault, Summary, Use, Uses, Work, WorkFault};
+use nego_expr::{RuleFault, Summary, Use, Uses, Work};
 use nego_merge::{can_merge, merge};
-use nego_model::Diagram;
 use nego_shortcut::{can_close, close};
 use std::alloc::Global;
 
@@ -113,19 +108,4 @@ pub(crate) fn reduce_work(alloc: Global, mut work: Work) -> Result<Reduction, Me
     }
     let summary = work.finish()?;
     Ok(Reduction { uses, summary })
-}
-
-/// Reduces a narrow diagram: makes the uses of its fresh work in their order. It is sound, and the summary tells it.
-pub(crate) fn reduce_diagram(alloc: Global, d: &Diagram) -> Result<Reduction, Memory>
-    requires narrow { IsNarrowDiagram d.now }
-    requires limits { IsWithinLimits d.now }
-    ensures reduces { IfOk result (λ r. Reduces (fresh_work d.now) (map plain_use r.uses) (plain_summary r.summary)) }
-    ensures tells { IfOk result (λ r. Tells (plain_summary r.summary) d.now) }
-{
-    let work = match Work::new(alloc, d) {
-        Ok(work) => work,
-        Err(WorkFault::Memory) => return Err(Memory),
-        Err(WorkFault::NotDeterministic(_, _)) => unreachable!(),
-    };
-    reduce_work(alloc, work)
 }

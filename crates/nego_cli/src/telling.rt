@@ -3,6 +3,7 @@
 ghost use Rattle.std.specs.Prelude.{◌≡◌, ℕ, ◌-◌, ◌^◌, ◌<◌, List, None, length, IfOk, IfErr};
 ghost use Rattle.nego_model.specs.Diagram.{IsDiagram};
 ghost use Rattle.nego_reader.specs.Spelling.{Spells};
+ghost use Rattle.nego_expr.specs.Plain.{WorkFaultHolds};
 ghost use Rattle.nego_shape.specs.Answer.{HasJoint};
 ghost use Rattle.nego_shape.specs.Faults.{shape_fault};
 ghost use Rattle.nego_cli.specs.Answer.{IsReducible, IsReductionOf};
@@ -14,13 +15,14 @@ use crate::answer::Job;
 use crate::certificate::print_reduction;
 use crate::form_text::print_form;
 use crate::narrow::is_narrow;
-use crate::order::reduce_diagram;
+use crate::order::reduce_work;
 use crate::shape_text::misshapen;
 use crate::text::{not_yet, off, undetermined};
 use nego_base::{Memory, ReadFaults, Text};
+use nego_expr::{Work, WorkFault};
 use nego_model::Diagram;
 use nego_reader::{Parsed, read_diagram};
-use nego_shape::{ShapeAnswer, determined, shape};
+use nego_shape::{ShapeAnswer, shape};
 use std::alloc::Global;
 
 /// Why there is no text.
@@ -68,6 +70,17 @@ fn unshaped(alloc: Global, p: &Parsed, e: &ShapeAnswer) -> Untold
     match e {
         ShapeAnswer::Off(fault) => refused(misshapen(alloc, p, fault)),
         ShapeAnswer::Memory => Untold::Memory,
+    }
+}
+
+/// The refusal of a diagram that isn't deterministic, or that there is no memory for.
+fn workless(alloc: Global, d: &Diagram, e: WorkFault) -> Untold
+    requires { WorkFaultHolds d.now e }
+    ensures { IsUnreduced d.now result }
+{
+    match e {
+        WorkFault::NotDeterministic(o, a) => refused(undetermined(alloc, d, o, a)),
+        WorkFault::Memory => Untold::Memory,
     }
 }
 
@@ -122,13 +135,14 @@ fn reduced(alloc: Global, d: &Diagram) -> Result<Text, Untold>
     ensures diagram { IfOk result (λ _. IsDiagram d.now) }
     ensures err { IfErr result (IsUnreduced d.now) }
 {
-    if let Err((o, a)) = determined(d) {
-        return Err(refused(undetermined(alloc, d, o, a)));
-    }
+    let work = match Work::new(alloc, d) {
+        Ok(work) => work,
+        Err(e) => return Err(workless(alloc, d, e)),
+    };
     if !is_narrow(d) {
         return Err(refused(not_yet(alloc)));
     }
-    let reduction = reduce_diagram(alloc, d)?;
+    let reduction = reduce_work(alloc, work)?;
     let text = print_reduction(alloc, &reduction.uses, &reduction.summary)?;
     Ok(text)
 }
