@@ -5,6 +5,8 @@ pub mod NumberWords
 pub mod WordLaws
 pub mod Found
 pub mod Said
+pub mod RefusedOnce
+pub mod LinesShown
 pub mod NarrowWorks
 pub mod NarrowOrder
 pub mod NarrowUses

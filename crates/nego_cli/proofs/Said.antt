@@ -64,7 +64,7 @@ one_job : (words : List (List ℕ)) (job other : Job) → Asks words job → Ask
 one_job words job other asked asked' = same_Some job other (sym asked ∙ asked')
 
 -- words that ask for a job are no bad words
-no_bad_words : (words : List (List ℕ)) (job : Job) → Asks words job → job_asked words ≡ None → ⊥
+pub no_bad_words : (words : List (List ℕ)) (job : Job) → Asks words job → job_asked words ≡ None → ⊥
 no_bad_words words job asked wrong = let apart : Some job ≡ None = sym asked ∙ wrong in cc
 
 -- a part of an input is one
@@ -131,7 +131,7 @@ two_jobs : (words : List (List ℕ)) → Asks words jobs.Check → Asks words jo
 two_jobs words asked asked' = let same : jobs.Check ≡ jobs.Reduce = one_job words jobs.Check jobs.Reduce asked asked' in cc
 
 -- all causes that stand together have one status
-one_status : (words : List (List ℕ)) (input : List ℕ) (reply other : Reply) → Causes words input reply → Causes words input other → status_of reply ≡ status_of other
+pub one_status : (words : List (List ℕ)) (input : List ℕ) (reply other : Reply) → Causes words input reply → Causes words input other → status_of reply ≡ status_of other
 one_status words input BadWords BadWords cause cause' = refl
 one_status words input BadWords (Checked p) wrong cause = absurd (no_bad_words words jobs.Check cause.0 wrong)
 one_status words input BadWords (Reduced p) wrong cause = absurd (no_bad_words words jobs.Reduce cause.0 wrong)
@@ -150,7 +150,7 @@ one_status words input (Refuses why) (Reduced p) cause cause' = absurd (reduced_
 one_status words input (Refuses why) (Refuses why') cause cause' = refl
 
 -- whatever the reason of a line, the source tells after only if it told before
-reason_told : (words : List (List ℕ)) (source : Change) (line : List ℕ) → IsReason words source line → WhereTold source.before source.after (λ _ _. Unit {0})
+pub reason_told : (words : List (List ℕ)) (source : Change) (line : List ℕ) → IsReason words source line → WhereTold source.before source.after (λ _ _. Unit {0})
 reason_told words source line (inl (e, due)) = told_then source.before source.after _ _ (λ _ _ _. tt) due.input
 reason_told words source line (inr (inl (why, e, due))) = told_then source.before source.after _ _ (λ _ _ _. tt) due.input
 reason_told words source line (inr (inr (ReadFails, e, trouble))) = told_then source.before source.after _ _ (λ _ _ _. tt) trouble.2
@@ -161,7 +161,7 @@ write_told words source out err (inl fails) = told_then source.before source.aft
 write_told words source out err (inr fails) = reason_told words source fails.line fails.reason
 
 -- a text is put where the words ask for a job
-text_no_bad_words : (words : List (List ℕ)) (reply : Reply) (text : List ℕ) → Holds words reply → IsTextOf reply text → job_asked words ≡ None → ⊥
+pub text_no_bad_words : (words : List (List ℕ)) (reply : Reply) (text : List ℕ) → Holds words reply → IsTextOf reply text → job_asked words ≡ None → ⊥
 text_no_bad_words words (Checked p) text holds text_is wrong = no_bad_words words jobs.Check holds.0 wrong
 text_no_bad_words words (Reduced p) text holds text_is wrong = no_bad_words words jobs.Reduce holds.0 wrong
 text_no_bad_words words BadWords text holds text_is wrong = absurd text_is
@@ -176,7 +176,7 @@ words_told words source out err statuses.WriteFault said wrong = inr (inr (inl r
 words_told words source out err statuses.Memory said wrong = inr (inr (inr refl))
 
 -- a text is put with one status
-text_done : (reply : Reply) (text : List ℕ) → IsTextOf reply text → statuses.Done ≡ status_of reply
+pub text_done : (reply : Reply) (text : List ℕ) → IsTextOf reply text → statuses.Done ≡ status_of reply
 text_done (Checked p) text text_is = refl
 text_done (Reduced p) text text_is = refl
 text_done BadWords text text_is = absurd text_is

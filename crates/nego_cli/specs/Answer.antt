@@ -211,6 +211,10 @@ pub record ErrFails (words : List (List ℕ)) (source out err : Change) : Type 0
 abbrev pub ShowsTrouble : List (List ℕ) → Change → Change → Change → Trouble → Type 0
 ShowsTrouble words source out err trouble = IsTrouble words source trouble × Put [] out × Put (trouble_line trouble) err
 
+-- The line is on `err` with its status, and nothing on `out`; or memory was wanted.
+abbrev pub Shows : Status → List ℕ → Change → Change → Status → Type 0
+Shows wanted line out err status = ((status ≡ wanted) × Put [] out × Put line err) ⊎ (status ≡ statuses.Memory)
+
 -- What each status says.
 abbrev pub Says : List (List ℕ) → Change → Change → Change → Status → Type 0
 Says words source out err statuses.Done = (reply : Reply) × (text : List ℕ) × IsDue words source reply × IsTextOf reply text × Put text out × Put [] err

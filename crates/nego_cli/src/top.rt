@@ -2,7 +2,9 @@
 
 ghost use Rattle.std.specs.Prelude.{◌≡◌, ◌⊎◌, ℕ, ◌≤◌, List, None};
 ghost use Rattle.nego_io.specs.Outside.{Rose, WhereTold};
-ghost use Rattle.nego_cli.specs.Answer.{Reply, Causes, Failed, Says, IsFault, IsTextOf, Put, change, job_asked, status_of};
+ghost use Rattle.nego_cli.specs.Answer.{Reply, Refuses, Causes, Failed, Shows, Says, IsFault, IsTextOf, Put, change, job_asked, status_of};
+ghost use Rattle.nego_cli.specs.Refusals.{Why, refusal_line};
+ghost use Rattle.nego_cli.specs.Texts.{usage_line};
 
 use crate::Status;
 use crate::answer::find_answer;
@@ -34,6 +36,15 @@ pub fn nego<S: Source, O: Sink, E: Sink>(
     ensures complete { WhereTold (S.left source.old) (S.left source.new) (λ input _. (reply : Reply) → Causes words.now input reply → status_of reply ≡ Status.Done →
         ¬ Failed (change S.left S.faults source.old source.new) → ¬ Failed (change O.taken O.faults out.old out.new) → ¬ Failed (change E.taken E.faults err.old err.new) →
         ((result ≡ Status.Done) × ((text : List ℕ) × IsTextOf reply text × Put text (change O.taken O.faults out.old out.new))) ⊎ (result ≡ Status.Memory)) }
+
+    // Where the words are no command that is built, and the count of `err` didn't rise, the usage line is there, or memory
+    // was wanted. Where the words and the input are the cause of a refusal, and the counts of the source and of `err`
+    // didn't rise, the refusal's line is there, or memory was wanted.
+    ensures usage { job_asked words.now ≡ None → ¬ Failed (change E.taken E.faults err.old err.new) →
+        Shows Status.Words usage_line (change O.taken O.faults out.old out.new) (change E.taken E.faults err.old err.new) result }
+    ensures refusals { WhereTold (S.left source.old) (S.left source.new) (λ input _. (why : Why) → Causes words.now input (Refuses why) →
+        ¬ Failed (change S.left S.faults source.old source.new) → ¬ Failed (change E.taken E.faults err.old err.new) →
+        Shows Status.Refused (refusal_line why) (change O.taken O.faults out.old out.new) (change E.taken E.faults err.old err.new) result) }
 
     // What has no part in the answer stays as it is, whether it tells or not: the source where the words are no command
     // that is built, `out` where no text is put there, and `err` where the text is on `out`.
