@@ -15,14 +15,7 @@ use Rattle.nego_reader.specs.Answer.{ReadHasCause, SpellsNothing}
 use Rattle.nego_shape.specs.declared.fault.ShapeAnswer.{ShapeAnswer}
 use Rattle.nego_shape.specs.declared.fault.ShapeFault.{ShapeFault}
 use Rattle.nego_shape.specs.declared.fault.ShapeAnswer.TheVariants as shape_answers
-use Rattle.nego_data.specs.Data.{data_count}
-use Rattle.nego_data.specs.Sizes.{AreSizes}
-use Rattle.nego_reader.specs.Content.{content_of}
-use Rattle.nego_shape.specs.Naming.{sizes_in}
-use Rattle.nego_shape.specs.declared.fault.ShapeKind.{ShapeKind}
-use Rattle.nego_shape.specs.declared.fault.ShapeKind.TheVariants as kinds
-use Rattle.nego_shape.specs.Answer.{HasCause, HasJoint, AreJointIn}
-use Rattle.nego_cli.specs.Refusals as Joint
+use Rattle.nego_shape.specs.Answer.{HasCause}
 use Rattle.nego_cli.specs.declared.answer.Job.{Job}
 use Rattle.nego_cli.specs.declared.answer.Job.TheVariants as jobs
 use Rattle.nego_cli.specs.declared.telling.Untold.{Untold}
@@ -104,29 +97,3 @@ unread_line e fault u is line_is = subst (λ (x : ReadFaults). IsUnread x u) (sy
 
 pub unshaped_line : (p : Parsed) (e : ShapeAnswer) (fault : ShapeFault) (u : Untold) → e ≡ shape_answers.Off fault → IsLine (refusal_line (Misshapen p fault)) u → IsUnshaped p e u
 unshaped_line p e fault u is line_is = subst (λ (x : ShapeAnswer). IsUnshaped p x u) (sym is) line_is
-
--- the joint data of a fault of shape
-joint_of : (p : Parsed) (kind : ShapeKind) → AreJointIn p kind → Joint.HasJoint p kind
-joint_of p (kinds.NotTotal o d) h = λ o' d' same. (
-    let one : d ≡ d' = cc in
-    subst (λ (n : ℕ). AreSizes (sizes_in (content_of p)) × (n < data_count (sizes_in (content_of p)))) one h
-    )
-joint_of p kinds.NoAgent h = λ o d same. cc
-joint_of p (kinds.TooMany what) h = λ o d same. cc
-joint_of p (kinds.Twice name) h = λ o d same. cc
-joint_of p (kinds.Unknown name) h = λ o d same. cc
-joint_of p (kinds.NoParty n) h = λ o d same. cc
-joint_of p (kinds.NoOutcome n) h = λ o d same. cc
-joint_of p (kinds.FirstLacks a) h = λ o d same. cc
-joint_of p (kinds.LastLacks a) h = λ o d same. cc
-joint_of p (kinds.NextMissing o a) h = λ o' d same. cc
-joint_of p (kinds.NextStranger o a n) h = λ o' d same. cc
-joint_of p (kinds.LastLeads o) h = λ o' d same. cc
-joint_of p (kinds.NotParty o a) h = λ o' d same. cc
-joint_of p (kinds.ZeroSize a) h = λ o d same. cc
-joint_of p (kinds.SizeTooLarge a) h = λ o d same. cc
-joint_of p (kinds.JointTooLarge a) h = λ o d same. cc
-joint_of p (kinds.ValueTooLarge o a) h = λ o' d same. cc
-
-pub joint_off : (p : Parsed) (e : ShapeAnswer) (fault : ShapeFault) → e ≡ shape_answers.Off fault → HasJoint e p → Joint.HasJoint p fault.kind
-joint_off p e fault is h = joint_of p fault.kind (subst (λ (x : ShapeAnswer). HasJoint x p) is h)

@@ -1,11 +1,9 @@
 -- Why an input is refused, and the lines that say so. Every line ends with a newline.
-use Rattle.std.specs.Prelude.{◌≡◌, ℕ, ◌<◌, List, [], ◌∷◌, ◌++◌, codes, decimal}
-use Rattle.nego_base.specs.declared.ids.OutcomeId.{OutcomeId}
+use Rattle.std.specs.Prelude.{ℕ, List, [], ◌∷◌, ◌++◌, codes, decimal}
 use Rattle.nego_base.specs.declared.fault.FaultKind.{FaultKind}
 use Rattle.nego_base.specs.declared.fault.FaultKind.TheVariants as kinds
 use Rattle.nego_base.specs.declared.fault.Fault.{Fault}
-use Rattle.nego_data.specs.Data.{data_count, split}
-use Rattle.nego_data.specs.Sizes.{AreSizes}
+use Rattle.nego_data.specs.Data.{split}
 use Rattle.nego_model.specs.Diagram.{PlainDiagram, agent_name, atom_name, outcome_name, atom_of}
 use Rattle.nego_reader.specs.declared.parsed.Parsed.{Parsed}
 use Rattle.nego_reader.specs.Content.{content_of}
@@ -14,7 +12,7 @@ use Rattle.nego_shape.specs.declared.fault.Many.TheVariants as many
 use Rattle.nego_shape.specs.declared.fault.ShapeKind.{ShapeKind}
 use Rattle.nego_shape.specs.declared.fault.ShapeKind.TheVariants as shapes
 use Rattle.nego_shape.specs.declared.fault.ShapeFault.{ShapeFault}
-use Rattle.nego_shape.specs.Naming.{sizes_in, diagram_in}
+use Rattle.nego_shape.specs.Naming.{diagram_in}
 
 -- the diagram that the value of a text is
 abbrev pub diagram_of : Parsed → PlainDiagram
@@ -60,10 +58,6 @@ many_name many.Outcomes = codes "outcomes"
 abbrev pub value_words : List ℕ → List ℕ → List ℕ
 value_words [] rest = rest
 value_words (value ∷ values) rest = codes " " ++ (decimal value ++ value_words values rest)
-
--- Joint data that a fault of shape names are some of those of the agents' sizes, which are within their limits.
-abbrev pub HasJoint : Parsed → ShapeKind → Type 0
-HasJoint p kind = (o : OutcomeId) (d : ℕ) → kind ≡ shapes.NotTotal o d → AreSizes (sizes_in (content_of p)) × (d < data_count (sizes_in (content_of p)))
 
 -- the kind of a fault of shape and its arguments
 abbrev pub shape_words : PlainDiagram → ShapeKind → List ℕ → List ℕ

@@ -5,9 +5,10 @@ ghost use Rattle.nego_data.specs.Data.{data_count, split};
 ghost use Rattle.nego_data.specs.Sizes.{AreSizes};
 ghost use Rattle.nego_model.specs.Diagram.{agent_name, atom_name, outcome_name, atom_of};
 ghost use Rattle.nego_reader.specs.Content.{content_of};
+ghost use Rattle.nego_shape.specs.Answer.{AreJointIn};
 ghost use Rattle.nego_shape.specs.Naming.{sizes_in};
 ghost use Rattle.nego_expr.specs.SummaryText.{Appends};
-ghost use Rattle.nego_cli.specs.Refusals.{diagram_of, many_name, outcome_words, choice_words, value_words, shape_words, refusal_line, HasJoint, Misshapen};
+ghost use Rattle.nego_cli.specs.Refusals.{diagram_of, many_name, outcome_words, choice_words, value_words, shape_words, refusal_line, Misshapen};
 
 use nego_base::{AgentId, Memory, OutcomeId, Text};
 use nego_reader::Parsed;
@@ -16,7 +17,7 @@ use std::alloc::Global;
 
 /// The line of the refusal of a text whose value has this fault of shape.
 pub(crate) fn misshapen(alloc: Global, p: &Parsed, fault: &ShapeFault) -> Result<Text, Memory>
-    requires { HasJoint p.now fault.now.kind }
+    requires { AreJointIn p.now fault.now.kind }
     ensures { IfOk result (λ line. line ≡ refusal_line (Misshapen p.now fault.now)) }
 {
     let line = fault.line.to_string(alloc)?;
@@ -30,7 +31,7 @@ pub(crate) fn misshapen(alloc: Global, p: &Parsed, fault: &ShapeFault) -> Result
 
 /// Adds the kind of a fault, and its arguments.
 fn add_kind(alloc: Global, text: &mut Text, p: &Parsed, kind: &ShapeKind) -> Result<(), Memory>
-    requires { HasJoint p.now kind.now }
+    requires { AreJointIn p.now kind.now }
     ensures { OnOk result (Appends text.old text.new (shape_words (diagram_of p.now) kind.now)) }
 {
     match kind {

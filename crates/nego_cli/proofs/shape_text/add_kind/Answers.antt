@@ -1,6 +1,7 @@
 use Rattle.std.proofs.Common.{◌++◌, sym, subst}
 use Rattle.std.specs.Prelude.{OnOk, codes}
 use Rattle.nego_model.specs.Diagram.{atom_name}
+use Rattle.nego_shape.specs.Answer.{AreJointIn}
 use Rattle.nego_expr.specs.SummaryText.{Appends}
 use Rattle.nego_expr.proofs.Printing.{appends_then}
 use Rattle.nego_cli.specs.Refusals.{diagram_of, choice_words, shape_words}
@@ -39,3 +40,9 @@ returns-in_ok-add_choice-in-NextStranger c =
     subst (λ kind. OnOk r (Appends old new (shape_words d kind))) (sym c.in-NextStranger.is)
     (then_ok r (Appends mid new (λ rest. codes " " ++ (name ++ rest))) (Appends old new (λ rest. codes "NextStranger " ++ choice_words d o a (codes " " ++ (name ++ rest))))
     (λ then. appends_then old mid new (λ rest. codes "NextStranger " ++ choice_words d o a rest) (λ rest. codes " " ++ (name ++ rest)) c.in_ok-add_choice-in-NextStranger.ensures then) named)
+
+pub add_values-requires-clause-sizes : goal.add_values-requires-clause-sizes
+add_values-requires-clause-sizes c = (subst (AreJointIn c.args.p.now) c.in-NotTotal.is c.requires).0
+
+pub add_values-requires-clause-data : goal.add_values-requires-clause-data
+add_values-requires-clause-data c = (subst (AreJointIn c.args.p.now) c.in-NotTotal.is c.requires).1
