@@ -9,8 +9,8 @@ use Rattle.nego_cli.specs.declared.answer.Answer.TheVariants as answers
 use Rattle.nego_cli.specs.declared.answer.Job.{Job}
 use Rattle.nego_cli.specs.declared.answer.Job.TheVariants as jobs
 use Rattle.nego_cli.specs.declared.top.TheConstants.{PART_LIMIT}
-use Rattle.nego_cli.specs.Refusals.{Why, TooLong, NoEnd, Off, Misshapen, Undetermined, NotYet, refusal_line}
-use Rattle.nego_cli.specs.Answer.{Change, Reply, Checked, Reduced, BadWords, Refuses, Causes, Asks, IsRefused, InputRefused, IsTextOf, IsDue, job_asked, left_by}
+use Rattle.nego_cli.specs.Refusals.{Why, TooLong, NoEnd, Off, Misshapen, Undetermined, NotYet}
+use Rattle.nego_cli.specs.Answer.{Change, Reply, Checked, Reduced, BadWords, Refuses, Causes, Asks, IsRefused, InputRefused, IsDue, job_asked, left_by}
 use Rattle.nego_cli.specs.Handed.{IsFound, IsRefusal, IsReplyTo, IsAnswer}
 
 -- what follows from what is told

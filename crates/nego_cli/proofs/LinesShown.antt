@@ -1,11 +1,11 @@
 -- Where the words and the input are the cause of a line, it is on `err`, or memory was wanted.
-use Rattle.std.proofs.Common.{◌≡◌, ℕ, List, [], None, refl, ◌∙◌, subst, inl, inr}
+use Rattle.std.proofs.Common.{◌≡◌, ℕ, List, None, refl, ◌∙◌, subst, inl, inr}
 use Rattle.nego_io.specs.Outside.{WhereTold}
 use Rattle.nego_cli.specs.declared.status.Status.{Status}
 use Rattle.nego_cli.specs.declared.status.Status.TheVariants as statuses
 use Rattle.nego_cli.specs.Refusals.{Why, refusal_line}
 use Rattle.nego_cli.specs.Texts.{usage_line}
-use Rattle.nego_cli.specs.Answer.{Change, Failed, Put, Reply, BadWords, Refuses, Causes, IsTextOf, job_asked, status_of, Says, Shows}
+use Rattle.nego_cli.specs.Answer.{Change, Failed, Put, Reply, Refuses, Causes, IsTextOf, job_asked, Says, Shows}
 use Rattle.nego_cli.proofs.Found.{told_then}
 use Rattle.nego_cli.proofs.RefusedOnce.{one_line}
 use Rattle.nego_cli.proofs.Said.{no_bad_words, text_no_bad_words, text_done, one_status, reason_told}

@@ -4,15 +4,12 @@ use Rattle.std.specs.List.{range_with_len}
 use Rattle.std.specs.Option.{option_map_or}
 use Rattle.std.proofs.lemmas.List.FromFn.{length-map-range_with_len, get_or-map-range_with_len}
 use Rattle.std.proofs.lemmas.List.Elements.{All-get_or}
-use Rattle.std.proofs.lemmas.Option.{slice_get_within, get_or_from_slice_get, slice_get-get_or}
-use Rattle.nego_model.specs.Negotiation.{IsOutcome, IsDeterministic}
+use Rattle.std.proofs.lemmas.Option.{slice_get_within, get_or_from_slice_get}
 use Rattle.nego_model.specs.Expression.{Base}
-use Rattle.nego_model.specs.Diagram.{PlainAtom, PlainOutcome, PlainDiagram, IsDiagram, negotiation_of, nexts_of}
+use Rattle.nego_model.specs.Diagram.{PlainAtom, PlainOutcome, PlainDiagram, nexts_of}
 use Rattle.nego_expr.specs.Work.{sent_to}
 use Rattle.nego_expr.specs.Fresh.{atoms_from, outcomes_of, fresh_work}
 use Rattle.nego_expr.proofs.FreshLists.{fresh_outcome, All-outcomes_of}
-use Rattle.nego_expr.proofs.FreshWorks.{diagram_outcome}
-use Rattle.nego_model.proofs.Undetermined.{determined}
 use Rattle.nego_cli.specs.Narrow.{IsNarrowDiagram}
 use Rattle.nego_cli.specs.NarrowWork.{IsNarrow}
 

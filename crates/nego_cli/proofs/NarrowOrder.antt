@@ -8,7 +8,7 @@ use Rattle.std.proofs.lemmas.List.{length-map}
 use Rattle.nego_base.specs.Members.{is_in, all_in, without_member}
 use Rattle.nego_base.proofs.Members.{is_in-without, length-without, all_at, some_member}
 use Rattle.nego_expr.specs.Work.{WorkOutcome, PlainWork, outcome_at, work_parties, sent_to, IsWork}
-use Rattle.nego_expr.specs.Use.{PlainUse, Merge, Iterate, Shortcut, Close, same_target, outcomes_at, iterates, can_close, enters, can_shortcut}
+use Rattle.nego_expr.specs.Use.{Merge, Iterate, Shortcut, Close, same_target, outcomes_at, iterates, can_close, enters}
 use Rattle.nego_expr.proofs.WorkEdits.{All-found}
 use Rattle.nego_cli.specs.NarrowWork.{IsNarrow}
 use Rattle.nego_cli.specs.Order.{HasNoMerge, HasNoIteration, HasNoShortcut, IsNextUse, HasNoNextUse, IsDone, has_passed}

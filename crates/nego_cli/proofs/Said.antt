@@ -1,10 +1,9 @@
 -- What was found and put out is what the status says, and no other status could be.
-use Rattle.std.proofs.Common.{◌≡◌, ◌⊎◌, ℕ, List, [], Option, Some, None, refl, sym, ap, subst, ◌∙◌, inl, inr}
+use Rattle.std.proofs.Common.{◌≡◌, ◌⊎◌, ℕ, List, [], Some, None, refl, sym, ap, subst, ◌∙◌, inl, inr}
 use Rattle.std.proofs.lemmas.Option.{same_Some}
 use Rattle.nego_io.specs.Outside.{WhereTold}
 use Rattle.nego_io.specs.Part.{Whole, reading}
-use Rattle.nego_model.specs.Negotiation.{IsDeterministic}
-use Rattle.nego_model.specs.Diagram.{PlainDiagram, negotiation_of}
+use Rattle.nego_model.specs.Diagram.{PlainDiagram}
 use Rattle.nego_model.specs.Undetermined.{IsFirstUndetermined}
 use Rattle.nego_reader.specs.declared.parsed.Parsed.{Parsed}
 use Rattle.nego_reader.specs.Spelling.{Spells}
@@ -24,7 +23,7 @@ use Rattle.nego_cli.specs.declared.top.TheConstants.{PART_LIMIT}
 use Rattle.nego_cli.specs.Narrow.{IsNarrowDiagram}
 use Rattle.nego_cli.specs.Refusals.{Why, TooLong, NoEnd, Off, Misshapen, Undetermined, NotYet, diagram_of}
 use Rattle.nego_cli.specs.Texts.{usage_line, read_fault_line, memory_line}
-use Rattle.nego_cli.specs.Answer.{Change, Failed, Put, PutFront, Reply, Checked, Reduced, BadWords, Refuses, ReadFails, MemoryFails, Causes, Asks, SpellsShaped, InputRefused, Holds, IsTextOf, job_asked, status_of, IsReason, IsFault, Says, OutFails, ErrFails}
+use Rattle.nego_cli.specs.Answer.{Change, Failed, Put, Reply, Checked, Reduced, BadWords, Refuses, ReadFails, MemoryFails, Causes, Asks, SpellsShaped, InputRefused, Holds, IsTextOf, job_asked, status_of, IsReason, IsFault, Says, OutFails, ErrFails}
 use Rattle.nego_cli.specs.Handed.{IsFound, LinePut, IsDelivered}
 use Rattle.nego_cli.proofs.Found.{told_then}
 

@@ -1,14 +1,12 @@
 -- What the text of a diagram comes to.
-use Rattle.std.proofs.Common.{◌≡◌, ◌⊎◌, ℕ, ◌<◌, List, Some, None, Result, Ok, Err, refl, sym, ap, subst, ◌∙◌, inl, inr}
+use Rattle.std.proofs.Common.{◌≡◌, ℕ, List, Result, Ok, Err, refl, sym, subst, inl, inr}
 use Rattle.std.specs.Prelude.{IfOk, IfErr}
-use Rattle.nego_base.specs.declared.memory.Memory.{Memory}
 use Rattle.nego_base.specs.declared.fault.Fault.{Fault}
 use Rattle.nego_model.specs.Negotiation.{IsDeterministic}
 use Rattle.nego_model.specs.Diagram.{PlainDiagram, IsDiagram, negotiation_of}
 use Rattle.nego_model.specs.Undetermined.{IsFirstUndetermined}
 use Rattle.nego_reader.specs.declared.parsed.Parsed.{Parsed}
 use Rattle.nego_reader.specs.Spelling.{Spells}
-use Rattle.nego_shape.specs.Faults.{shape_fault}
 use Rattle.nego_base.specs.declared.fault.ReadFaults.{ReadFaults}
 use Rattle.nego_base.specs.declared.fault.ReadFaults.TheVariants as read_faults
 use Rattle.nego_reader.specs.Answer.{ReadHasCause, SpellsNothing}
@@ -23,7 +21,7 @@ use Rattle.nego_cli.specs.declared.telling.Untold.TheVariants as untold
 use Rattle.nego_cli.specs.Narrow.{IsNarrowDiagram}
 use Rattle.nego_cli.specs.Refusals.{Why, Off, Misshapen, Undetermined, NotYet, diagram_of, refusal_line}
 use Rattle.nego_cli.specs.Answer.{Checked, Reduced, SpellsShaped, IsReducible, IsRefused, IsFormOf, IsReductionOf}
-use Rattle.nego_cli.specs.Handed.{IsTold, IsToldOff, IsUntold, IsUnread, IsUnshaped, IsUnreduced, IsLine}
+use Rattle.nego_cli.specs.Handed.{IsTold, IsUntold, IsUnread, IsUnshaped, IsUnreduced, IsLine}
 
 -- a line, or want of memory, for a refusal of which the part has the cause
 pub off_by : (job : Job) (part : List ℕ) (why : Why) (u : Untold) → IsRefused job part why → IsLine (refusal_line why) u → IsUntold job part u

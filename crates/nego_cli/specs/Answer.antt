@@ -1,5 +1,5 @@
 -- What the top call answers: each status with its cause, what it put out, and what it left unread.
-use Rattle.std.specs.Prelude.{◌≡◌, ◌≢◌, ◌⊎◌, ℕ, List, [], ◌∷◌, ◌++◌, Option, Some, None, MatchOption, option_and_then}
+use Rattle.std.specs.Prelude.{◌≡◌, ◌⊎◌, ℕ, List, [], Option, Some, None, MatchOption, option_and_then}
 use Rattle.nego_io.specs.Outside.{Rose, WhereTold, Puts, PutsFront}
 use Rattle.nego_io.specs.Answer.{TakesWithin}
 use Rattle.nego_io.specs.Part.{Whole, PastLimit, Unended, behind, reading}

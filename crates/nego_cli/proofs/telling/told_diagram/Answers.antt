@@ -1,4 +1,4 @@
-use Rattle.std.proofs.Common.{◌≡◌, List, ℕ, Result, subst, sym}
+use Rattle.std.proofs.Common.{subst, sym}
 use Rattle.std.specs.Prelude.{IfOk, IfErr}
 use Rattle.nego_cli.specs.declared.answer.Job.{Job}
 use Rattle.nego_cli.specs.Handed.{IsTold, IsUntold}
