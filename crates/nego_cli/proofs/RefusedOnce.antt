@@ -12,7 +12,7 @@ use Rattle.nego_reader.specs.Content.{content_of}
 use Rattle.nego_reader.proofs.Said.{spelled_once}
 use Rattle.nego_shape.specs.declared.fault.ShapeFault.{ShapeFault}
 use Rattle.nego_shape.specs.Faults.{shape_fault}
-use Rattle.nego_shape.proofs.Undetermined.{undetermined}
+use Rattle.nego_model.proofs.Undetermined.{undetermined}
 use Rattle.nego_shape.proofs.ShapedDiagrams.{shaped-diagram}
 use Rattle.nego_shape.proofs.SoundShape.{sound_shape}
 use Rattle.nego_cli.specs.declared.answer.Job.{Job}
