@@ -3,10 +3,10 @@ use Rattle.std.specs.List.Sorted.{IsStrictlyIncreasing}
 use Rattle.std.proofs.Common.{get_or, Some, add-one, add-zero, ◌≡◌, ◌≢◌, ℕ, zero, suc, ◌+◌, ◌<◌, ◌≤◌, Bool, true, false, not, cond, ◌&&◌, ◌||◌, eqb, ltb, List, [], ◌∷◌, ◌++◌, length, ◌⊎◌, inl, inr, refl, sym, ap, subst, ◌∙◌, arith}
 use Rattle.std.specs.Prelude.{All, slice_get, Contains}
 use Rattle.std.specs.List.{list_all, filter, range_with_len}
-use Rattle.std.proofs.lemmas.Bool.{or_left, or_right, both_ways, false_from_ne_true, or_parts, or_cases, and_parts, and_from, eqb-true, eq-eqb, ne_eqb, cases_Bool, cases_eq, cases_lt, cases_order, false≢true, true≢false}
+use Rattle.std.proofs.lemmas.Bool.{or_left, or_right, both_ways, false_from_ne_true, or_parts, or_cases, and_parts, and_from, eqb-true, eq-eqb, ne_eqb, cases_Bool, cases_eq, cases_lt, cases_order, ltb-true, false≢true, true≢false}
 use Rattle.std.proofs.lemmas.Bool.Decides.{nat_tests}
 use Rattle.std.proofs.lemmas.List.Elements.{All-nil, All-cons, All-head, All-tail, All-filter, All-contains, All-contains_itself}
-use Rattle.nego_base.specs.Members.{is_in, all_in, any_in, with_member, without_member, RisesFrom, IsRising, IsRisingBelow}
+use Rattle.nego_base.specs.Members.{is_in, all_in, any_in, with_member, without_member, united, difference, RisesFrom, IsRising, IsRisingBelow}
 use Rattle.nego_base.proofs.BoolLaws.{same_tests}
 
 -- ---- membership
@@ -27,6 +27,19 @@ pub is_in-without : (x y : ℕ) (xs : List ℕ) → is_in x (without_member y xs
 is_in-without x y xs = is_in-filter (λ z. not (eqb z y)) x xs
 
 -- the head is a member
+-- the members of two sets' union
+pub is_in-united : (x : ℕ) (xs ys : List ℕ) → is_in x (united xs ys) ≡ (is_in x xs || is_in x ys)
+is_in-united x [] ys = refl
+is_in-united x (y ∷ xs) ys = is_in-with x y (united xs ys) ∙ ap (λ t. eqb y x || t) (is_in-united x xs ys) ∙ moved (eqb y x) (is_in x xs) (is_in x ys)
+  where
+    moved : (s t u : Bool) → (s || (t || u)) ≡ ((s || t) || u)
+    moved true t u = refl
+    moved false t u = refl
+
+-- the members of a set that aren't in another
+pub is_in-difference : (x : ℕ) (xs ys : List ℕ) → is_in x (difference xs ys) ≡ (not (is_in x ys) && is_in x xs)
+is_in-difference x xs ys = is_in-filter (λ y. not (is_in y ys)) x xs
+
 pub is_in-head : (x : ℕ) (xs : List ℕ) → is_in x (x ∷ xs) ≡ true
 is_in-head x xs = grind (arith, nat_tests)
 
@@ -138,6 +151,10 @@ rises-with low x (y ∷ ys) h r =
 
     with_behind : (x y : ℕ) (ys : List ℕ) → y < x → with_member x (y ∷ ys) ≡ y ∷ with_member x ys
     with_behind x y ys q = grind (arith, nat_tests)
+
+pub rises-united : (low : ℕ) (xs ys : List ℕ) → RisesFrom low xs → RisesFrom low ys → RisesFrom low (united xs ys)
+rises-united low [] ys r s = s
+rises-united low (x ∷ xs) ys r s = rises-with low x (united xs ys) r.0 (rises-united low xs ys (rises_more low (x + 1) xs (omega (arith, r.0)) r.1) s)
 
 pub rises-filter : (p : ℕ → Bool) (low : ℕ) (xs : List ℕ) → RisesFrom low xs → RisesFrom low (filter p xs)
 rises-filter p low [] r = tt
@@ -383,6 +400,28 @@ pub without-rises : (width x : ℕ) (xs : List ℕ) → IsRisingBelow width xs �
 without-rises width x xs s = record {
   rising = rises-without x 0 xs s.rising;
   below = All-filter (λ y. not (eqb y x)) (λ y. y < width) xs s.below;
+}
+
+pub range-rises : (width n : ℕ) → n ≤ width → IsRisingBelow width (range_with_len 0 n)
+range-rises width n h = record {
+  rising = rises-range 0 n;
+  below = All-members (λ x. x < width) (range_with_len 0 n) (λ x m. let q = ltb-true x n (sym (is_in-range_zero x n) ∙ m) in omega (arith, q));
+}
+
+pub united-rises : (width : ℕ) (xs ys : List ℕ) → IsRisingBelow width xs → IsRisingBelow width ys → IsRisingBelow width (united xs ys)
+united-rises width xs ys r s = record {
+  rising = rises-united 0 xs ys r.rising s.rising;
+  below = All-members (λ x. x < width) (united xs ys) (λ x m. of_one x (or_cases (is_in x xs) (is_in x ys) (sym (is_in-united x xs ys) ∙ m)));
+}
+  where
+    of_one : (x : ℕ) → (is_in x xs ≡ true) ⊎ (is_in x ys ≡ true) → x < width
+    of_one x (inl m) = All-member (λ y. y < width) x xs r.below m
+    of_one x (inr m) = All-member (λ y. y < width) x ys s.below m
+
+pub difference-rises : (width : ℕ) (xs ys : List ℕ) → IsRisingBelow width xs → IsRisingBelow width (difference xs ys)
+difference-rises width xs ys r = record {
+  rising = rises-filter (λ x. not (is_in x ys)) 0 xs r.rising;
+  below = All-filter (λ x. not (is_in x ys)) (λ x. x < width) xs r.below;
 }
 
 pub member_below : (width x : ℕ) (xs : List ℕ) → IsRisingBelow width xs → is_in x xs ≡ true → x < width

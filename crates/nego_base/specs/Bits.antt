@@ -1,5 +1,5 @@
 -- A word of bits as a rising list of numbers.
-use Rattle.std.specs.Prelude.{◌≡◌, ℕ, ◌+◌, ◌*◌, ◌%◌, ◌^◌, ◌<◌, Bool, true, false, ◌==◌, if◌then◌else◌, List, [], ◌∷◌, ◌++◌, refl}
+use Rattle.std.specs.Prelude.{◌≡◌, ℕ, ◌+◌, ◌*◌, ◌%◌, ◌^◌, ◌<◌, ◌≤◌, Bool, true, false, ◌==◌, if◌then◌else◌, List, [], ◌∷◌, ◌++◌, refl}
 use Rattle.std.specs.List.{filter, range_with_len, sum_by}
 use Rattle.std.specs.Int.{bit_at}
 use Rattle.std.proofs.Common.{subst, add_comm, sym, ap, ◌∙◌, arith, ◌⊎◌, zero, suc, add-zero, zero-add, inl, inr}
@@ -17,6 +17,11 @@ members width bits = filter (λ k. bit_at bits k == 1) (range_with_len 0 width)
 -- the word in which the bits of these numbers are set
 unfoldable pub word_of : List ℕ → ℕ
 word_of xs = sum_by (λ x. 2 ^ x) xs
+
+-- the width is at most 64, and the word is below 2 to the width
+pub record FitsWidth (width bits : ℕ) : Type 0 where
+  pub narrow : width ≤ 64
+  pub fits : bits < 2 ^ width
 
 pub range-suc : (a n : ℕ) → range_with_len a (suc n) ≡ range_with_len a n ++ (a + n) ∷ []
 range-suc a zero = rw (add-zero a) refl

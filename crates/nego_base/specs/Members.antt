@@ -23,6 +23,15 @@ with_member x (y ∷ ys) = if nat_lt x y then x ∷ y ∷ ys else (if x == y the
 abbrev pub without_member : ℕ → List ℕ → List ℕ
 without_member x xs = filter (λ y. not (y == x)) xs
 
+-- the numbers of both, each of the one in its place in the other
+abbrev pub united : List ℕ → List ℕ → List ℕ
+united [] ys = ys
+united (x ∷ xs) ys = with_member x (united xs ys)
+
+-- the numbers of the one that aren't in the other
+abbrev pub difference : List ℕ → List ℕ → List ℕ
+difference xs ys = filter (λ x. not (is_in x ys)) xs
+
 -- the first number is at least the low one, and each is less than the next
 abbrev pub RisesFrom : ℕ → List ℕ → Type 0
 RisesFrom low [] = Unit {0}

@@ -1,29 +1,25 @@
-ghost use Rattle.std.specs.Prelude.{◌≡◌, ◌<◌, [], ◌∷◌, length, slice_get, Some, IfSome, MatchOption};
-ghost use Rattle.nego_base.specs.Members.{is_in, all_in, any_in, with_member, without_member, IsRisingBelow};
+ghost use Rattle.std.specs.Prelude.{◌≡◌, ◌<◌, ◌≤◌, [], ◌∷◌, length, slice_get, Some, IfSome, MatchOption};
+ghost use Rattle.std.specs.List.{range_with_len};
+ghost use Rattle.nego_base.specs.Members.{is_in, all_in, any_in, with_member, without_member, united, difference, IsRisingBelow};
 
 use crate::AgentId;
+use crate::number_set::NumberSet;
 use std::marker::Model;
 
 /// A set of agents whose numbers are below 16. Contracts see it as the rising list of the numbers.
 #[derive(Clone, Copy, Debug)]
 pub struct AgentSet {
-    bits: u16,
+    numbers: NumberSet<16>,
 }
 
 impl Model for AgentSet {
-    ghost use Rattle.std.specs.Prelude.{◌^◌, ◌<◌, List, ℕ};
-    ghost use Rattle.std.proofs.Common.{ap};
-    ghost use Rattle.nego_base.specs.Bits.{members, word_of, word_of-members};
+    ghost use Rattle.std.specs.Prelude.{List, ℕ};
 
     ghost Value = { List ℕ };
 
-    ghost view = { λ s. members 16 s.bits };
+    ghost view = { λ s. s.numbers };
 
-    ghost invariant = { λ s. s.bits < 2 ^ 16 };
-
-    ghost inverse = { λ xs. record { bits = word_of xs } };
-
-    ghost inverse_ok = { λ a h. ap (λ (n : ℕ). record { bits = n }) (word_of-members 16 a.bits h) };
+    ghost inverse = { λ xs. record { numbers = xs } };
 }
 
 impl PartialEq for AgentSet {
@@ -36,7 +32,7 @@ impl PartialEq for AgentSet {
     ghost laws = { partial_equiv_from_equiv nat_list_eq_equiv };
 
     fn eq(&self, other: &AgentSet) -> bool {
-        self.bits == other.bits
+        self.numbers == other.numbers
     }
 }
 
@@ -52,7 +48,20 @@ impl AgentSet {
         ensures value { result ≡ [] }
         ensures rising { IsRisingBelow 16 result }
     {
-        AgentSet { bits: 0 }
+        AgentSet {
+            numbers: NumberSet::none(),
+        }
+    }
+
+    /// The set of all agents whose numbers are below n.
+    pub fn below(n: u32) -> AgentSet
+        requires { n ≤ 16 }
+        ensures value { result ≡ range_with_len 0 n }
+        ensures rising { IsRisingBelow 16 result }
+    {
+        AgentSet {
+            numbers: NumberSet::below(n),
+        }
     }
 
     /// Whether the agent is a member.
@@ -61,7 +70,7 @@ impl AgentSet {
         ensures value { result ≡ is_in x.0 self }
         ensures members { IsRisingBelow 16 self }
     {
-        self.bits >> x.0 & 1 == 1
+        self.numbers.has(x.0)
     }
 
     /// The set with the agent too.
@@ -72,7 +81,7 @@ impl AgentSet {
         ensures rising { IsRisingBelow 16 result }
     {
         AgentSet {
-            bits: self.bits | 1 << x.0,
+            numbers: self.numbers.with(x.0),
         }
     }
 
@@ -84,7 +93,31 @@ impl AgentSet {
         ensures rising { IsRisingBelow 16 result }
     {
         AgentSet {
-            bits: self.bits & !(1 << x.0),
+            numbers: self.numbers.without(x.0),
+        }
+    }
+
+    /// The members of both sets.
+    pub fn union(self, other: AgentSet) -> AgentSet
+        ensures value { result ≡ united self other }
+        ensures members { IsRisingBelow 16 self }
+        ensures others { IsRisingBelow 16 other }
+        ensures rising { IsRisingBelow 16 result }
+    {
+        AgentSet {
+            numbers: self.numbers.union(other.numbers),
+        }
+    }
+
+    /// The members that aren't in the other set.
+    pub fn difference(self, other: AgentSet) -> AgentSet
+        ensures value { result ≡ difference self other }
+        ensures members { IsRisingBelow 16 self }
+        ensures others { IsRisingBelow 16 other }
+        ensures rising { IsRisingBelow 16 result }
+    {
+        AgentSet {
+            numbers: self.numbers.difference(other.numbers),
         }
     }
 
@@ -94,7 +127,7 @@ impl AgentSet {
         ensures members { IsRisingBelow 16 self }
         ensures others { IsRisingBelow 16 other }
     {
-        self.bits & other.bits == self.bits
+        self.numbers.within(other.numbers)
     }
 
     /// Whether some member is one of the other set.
@@ -103,7 +136,7 @@ impl AgentSet {
         ensures members { IsRisingBelow 16 self }
         ensures others { IsRisingBelow 16 other }
     {
-        self.bits & other.bits != 0
+        self.numbers.meets(other.numbers)
     }
 
     /// The member of the least number, where there is a member.
@@ -113,10 +146,7 @@ impl AgentSet {
         ensures bound { IfSome result (λ x. x.0 < 16) }
         ensures members { IsRisingBelow 16 self }
     {
-        if self.bits == 0 {
-            return None;
-        }
-        Some(AgentId(self.bits.trailing_zeros()))
+        self.numbers.least().map(AgentId)
     }
 
     /// How many members there are.
@@ -124,6 +154,6 @@ impl AgentSet {
         ensures value { result ≡ length self }
         ensures members { IsRisingBelow 16 self }
     {
-        self.bits.count_ones()
+        self.numbers.count()
     }
 }

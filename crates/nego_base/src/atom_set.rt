@@ -1,29 +1,25 @@
-ghost use Rattle.std.specs.Prelude.{◌≡◌, ◌<◌, [], ◌∷◌, length, slice_get, Some, IfSome, MatchOption};
-ghost use Rattle.nego_base.specs.Members.{is_in, all_in, any_in, with_member, without_member, IsRisingBelow};
+ghost use Rattle.std.specs.Prelude.{◌≡◌, ◌<◌, ◌≤◌, [], ◌∷◌, length, slice_get, Some, IfSome, MatchOption};
+ghost use Rattle.std.specs.List.{range_with_len};
+ghost use Rattle.nego_base.specs.Members.{is_in, all_in, any_in, with_member, without_member, united, difference, IsRisingBelow};
 
 use crate::AtomId;
+use crate::number_set::NumberSet;
 use std::marker::Model;
 
 /// A set of atoms whose numbers are below 64. Contracts see it as the rising list of the numbers.
 #[derive(Clone, Copy, Debug)]
 pub struct AtomSet {
-    bits: u64,
+    numbers: NumberSet<64>,
 }
 
 impl Model for AtomSet {
-    ghost use Rattle.std.specs.Prelude.{◌^◌, ◌<◌, List, ℕ};
-    ghost use Rattle.std.proofs.Common.{ap};
-    ghost use Rattle.nego_base.specs.Bits.{members, word_of, word_of-members};
+    ghost use Rattle.std.specs.Prelude.{List, ℕ};
 
     ghost Value = { List ℕ };
 
-    ghost view = { λ s. members 64 s.bits };
+    ghost view = { λ s. s.numbers };
 
-    ghost invariant = { λ s. s.bits < 2 ^ 64 };
-
-    ghost inverse = { λ xs. record { bits = word_of xs } };
-
-    ghost inverse_ok = { λ a h. ap (λ (n : ℕ). record { bits = n }) (word_of-members 64 a.bits h) };
+    ghost inverse = { λ xs. record { numbers = xs } };
 }
 
 impl PartialEq for AtomSet {
@@ -36,7 +32,7 @@ impl PartialEq for AtomSet {
     ghost laws = { partial_equiv_from_equiv nat_list_eq_equiv };
 
     fn eq(&self, other: &AtomSet) -> bool {
-        self.bits == other.bits
+        self.numbers == other.numbers
     }
 }
 
@@ -52,7 +48,20 @@ impl AtomSet {
         ensures value { result ≡ [] }
         ensures rising { IsRisingBelow 64 result }
     {
-        AtomSet { bits: 0 }
+        AtomSet {
+            numbers: NumberSet::none(),
+        }
+    }
+
+    /// The set of all atoms whose numbers are below n.
+    pub fn below(n: u32) -> AtomSet
+        requires { n ≤ 64 }
+        ensures value { result ≡ range_with_len 0 n }
+        ensures rising { IsRisingBelow 64 result }
+    {
+        AtomSet {
+            numbers: NumberSet::below(n),
+        }
     }
 
     /// Whether the atom is a member.
@@ -61,7 +70,7 @@ impl AtomSet {
         ensures value { result ≡ is_in x.0 self }
         ensures members { IsRisingBelow 64 self }
     {
-        self.bits >> x.0 & 1 == 1
+        self.numbers.has(x.0)
     }
 
     /// The set with the atom too.
@@ -72,7 +81,7 @@ impl AtomSet {
         ensures rising { IsRisingBelow 64 result }
     {
         AtomSet {
-            bits: self.bits | 1 << x.0,
+            numbers: self.numbers.with(x.0),
         }
     }
 
@@ -84,7 +93,31 @@ impl AtomSet {
         ensures rising { IsRisingBelow 64 result }
     {
         AtomSet {
-            bits: self.bits & !(1 << x.0),
+            numbers: self.numbers.without(x.0),
+        }
+    }
+
+    /// The members of both sets.
+    pub fn union(self, other: AtomSet) -> AtomSet
+        ensures value { result ≡ united self other }
+        ensures members { IsRisingBelow 64 self }
+        ensures others { IsRisingBelow 64 other }
+        ensures rising { IsRisingBelow 64 result }
+    {
+        AtomSet {
+            numbers: self.numbers.union(other.numbers),
+        }
+    }
+
+    /// The members that aren't in the other set.
+    pub fn difference(self, other: AtomSet) -> AtomSet
+        ensures value { result ≡ difference self other }
+        ensures members { IsRisingBelow 64 self }
+        ensures others { IsRisingBelow 64 other }
+        ensures rising { IsRisingBelow 64 result }
+    {
+        AtomSet {
+            numbers: self.numbers.difference(other.numbers),
         }
     }
 
@@ -94,7 +127,7 @@ impl AtomSet {
         ensures members { IsRisingBelow 64 self }
         ensures others { IsRisingBelow 64 other }
     {
-        self.bits & other.bits == self.bits
+        self.numbers.within(other.numbers)
     }
 
     /// Whether some member is one of the other set.
@@ -103,7 +136,7 @@ impl AtomSet {
         ensures members { IsRisingBelow 64 self }
         ensures others { IsRisingBelow 64 other }
     {
-        self.bits & other.bits != 0
+        self.numbers.meets(other.numbers)
     }
 
     /// The member of the least number, where there is a member.
@@ -113,10 +146,7 @@ impl AtomSet {
         ensures bound { IfSome result (λ x. x.0 < 64) }
         ensures members { IsRisingBelow 64 self }
     {
-        if self.bits == 0 {
-            return None;
-        }
-        Some(AtomId(self.bits.trailing_zeros()))
+        self.numbers.least().map(AtomId)
     }
 
     /// How many members there are.
@@ -124,6 +154,6 @@ impl AtomSet {
         ensures value { result ≡ length self }
         ensures members { IsRisingBelow 64 self }
     {
-        self.bits.count_ones()
+        self.numbers.count()
     }
 }

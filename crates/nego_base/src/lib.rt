@@ -12,6 +12,7 @@ mod line;
 mod memory;
 mod name;
 mod number;
+mod number_set;
 mod op;
 mod reserved;
 mod scanning;

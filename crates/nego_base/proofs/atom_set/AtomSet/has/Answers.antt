@@ -1,8 +1,0 @@
-use Rattle.nego_base.proofs.Bits.{members-has, members-rise}
-use Rattle.nego_base.proofs.atom_set.AtomSet.has.Goals as goal
-
-pub returns-clause-value : goal.returns-clause-value
-returns-clause-value c = rw (← c.self.view_is) (members-has 64 c.args.x.0 c.self.inside.bits c.requires)
-
-pub returns-clause-members : goal.returns-clause-members
-returns-clause-members c = rw (← c.self.view_is) (members-rise 64 c.self.inside.bits)

@@ -1,0 +1,14 @@
+use Rattle.nego_base.proofs.Bits.{members-with, members-rise, with_fits}
+use Rattle.nego_base.proofs.number_set.NumberSet.with.Goals as goal
+
+pub returns-clause-value : goal.returns-clause-value
+returns-clause-value g c = rw (← c.self.view_is) (members-with g.row.WIDTH c.args.x c.self.inside.bits c.self.invariant.narrow c.requires)
+
+pub returns-clause-members : goal.returns-clause-members
+returns-clause-members g c = rw (← c.self.view_is) (members-rise g.row.WIDTH c.self.inside.bits)
+
+pub returns-clause-rising : goal.returns-clause-rising
+returns-clause-rising g c = members-rise g.row.WIDTH _
+
+pub invariant_of-result : goal.invariant_of-result
+invariant_of-result g c = with_fits g.row.WIDTH c.args.x c.self.inside.bits c.self.invariant c.requires
