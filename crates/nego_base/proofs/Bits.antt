@@ -12,6 +12,7 @@ use Rattle.std.specs.Int.Count.{ones-ones}
 use Rattle.std.proofs.Math.Nat.{mod-eq_of_lt, lt_of_le_of_lt, lt_of_lt_of_le, mod-lt, mod-le, add_comm}
 use Rattle.std.proofs.Math.Pow.{pow_mono, pow-lt, pow-sub-lt}
 use Rattle.std.proofs.lemmas.Nat.Bits.{bit_at-lt, bit_at_and, bit_at_or, bit_at_not, bit_at_ones, bit_at_ones_above, bit_at_above, bit_at-zero, shr_and_one, bit_at-trailing_zeros, bit_at_set_same, bit_at_set_other, bit_at_clear_same, bit_at_clear_other}
+use Rattle.nego_base.proofs.BoolLaws.{both_false}
 use Rattle.nego_base.specs.Members.{is_in, all_in, any_in, with_member, without_member, united, difference, IsRising, IsRisingBelow}
 use Rattle.nego_base.specs.Bits.{FitsWidth, members, members-suc, members-zero, mod-suc_bit, word_of, word_of-members, word_of-nil}
 use Rattle.nego_base.proofs.Members.{is_in-united, is_in-difference, united-rises, difference-rises, range-rises, is_in-range_zero, is_in-range, rises-range, is_in-filter, is_in-with, is_in-without, rises-filter, All-members, same_below, with-rises, without-rises, all_in-member, all_in-members, any_in-member, any_in-none, head_from_least, first_and_rest, nil_from_none}
@@ -83,7 +84,7 @@ members-with width x n w h =
 pub with_fits : (width x n : ℕ) → FitsWidth width n → x < width → FitsWidth width (bit_or n (1 * 2 ^ x % 2 ^ 64))
 with_fits width x n h q = record {
   narrow = h.narrow;
-  fits = or_lt width n (1 * 2 ^ x % 2 ^ 64) h.fits (lt_of_le_of_lt (mod-le (1 * 2 ^ x) (2 ^ 64)) (let low : 2 ^ x < 2 ^ width = pow-lt q in omega (arith, low)))
+  fits = or_lt width n (1 * 2 ^ x % 2 ^ 64) h.fits (lt_of_le_of_lt (mod-le (1 * 2 ^ x) (2 ^ 64)) (let low : 2 ^ x < 2 ^ width = pow-lt q in omega (arith, low)));
 }
 
 -- `n & !(1 << x)`
@@ -208,11 +209,7 @@ members-meets width a b p = by_test (cases_Bool (eqb (bit_and a b) 0)) (cases_Bo
 
     back : any_in (members width a) (members width b) ≡ false → bit_and a b ≡ 0
     back t = zero_from_none width (bit_and a b) (lt_of_le_of_lt (and_le_l a b) p)
-        (nil_from_none (members width (bit_and a b)) (λ x. is_in-members_and width x a b ∙ apart (is_in x (members width a)) (is_in x (members width b)) (any_in-none x (members width a) (members width b) t)))
-      where
-        apart : (s t : Bool) → (s ≡ true → t ≡ false) → (s && t) ≡ false
-        apart true t h = h refl
-        apart false t h = refl
+        (nil_from_none (members width (bit_and a b)) (λ x. is_in-members_and width x a b ∙ both_false (is_in x (members width a)) (is_in x (members width b)) (any_in-none x (members width a) (members width b) t)))
 
     by_test : (eqb (bit_and a b) 0 ≡ true) ⊎ (eqb (bit_and a b) 0 ≡ false) → (any_in (members width a) (members width b) ≡ true) ⊎ (any_in (members width a) (members width b) ≡ false) → not (eqb (bit_and a b) 0) ≡ any_in (members width a) (members width b)
     by_test (inl e) (inl t) = absurd (forth t (eqb-true (bit_and a b) 0 e))

@@ -1,12 +1,13 @@
 -- Laws on lists of numbers as sets.
 use Rattle.std.specs.List.Sorted.{IsStrictlyIncreasing}
-use Rattle.std.proofs.Common.{get_or, Some, add-one, add-zero, ◌≡◌, ◌≢◌, ℕ, zero, suc, ◌+◌, ◌<◌, ◌≤◌, Bool, true, false, not, cond, ◌&&◌, ◌||◌, eqb, ltb, List, [], ◌∷◌, ◌++◌, length, ◌⊎◌, inl, inr, refl, sym, ap, subst, ◌∙◌, arith}
+use Rattle.std.proofs.Common.{get_or, Some, add-one, add-zero, zero-add, ◌≡◌, ◌≢◌, ℕ, zero, suc, ◌+◌, ◌<◌, ◌≤◌, Bool, true, false, not, cond, ◌&&◌, ◌||◌, eqb, ltb, List, [], ◌∷◌, ◌++◌, length, ◌⊎◌, inl, inr, refl, sym, ap, subst, ◌∙◌, arith}
 use Rattle.std.specs.Prelude.{All, slice_get, Contains}
-use Rattle.std.specs.List.{list_all, filter, range_with_len}
+use Rattle.std.specs.List.{list_any, list_all, filter, range_with_len}
 use Rattle.std.proofs.lemmas.Bool.{or_left, or_right, both_ways, false_from_ne_true, or_parts, or_cases, and_parts, and_from, eqb-true, eq-eqb, ne_eqb, cases_Bool, cases_eq, cases_lt, cases_order, ltb-true, false≢true, true≢false}
 use Rattle.std.proofs.lemmas.Bool.Decides.{nat_tests}
 use Rattle.std.proofs.lemmas.List.Elements.{All-nil, All-cons, All-head, All-tail, All-filter, All-contains, All-contains_itself}
 use Rattle.nego_base.specs.Members.{is_in, all_in, any_in, with_member, without_member, united, difference, RisesFrom, IsRising, IsRisingBelow}
+use Rattle.nego_base.specs.Bits.{range-suc}
 use Rattle.nego_base.proofs.BoolLaws.{same_tests}
 
 -- ---- membership
@@ -76,6 +77,37 @@ pub is_in_single : (x y : ℕ) → is_in x (y ∷ []) ≡ true → x ≡ y
 is_in_single x y h = elim (is_in-cases x y [] h) [ inl e ↦ e | inr q ↦ absurd (false≢true q) ]
 
 -- a list that isn't empty has a member
+-- a list of one item at most has no two members
+pub one_member : (xs : List ℕ) (x y : ℕ) → length xs ≤ 1 → is_in x xs ≡ true → is_in y xs ≡ true → x ≡ y
+one_member [] x y few hx hy = absurd (is_in_none x [] refl hx)
+one_member (z ∷ []) x y few hx hy = is_in_single x z hx ∙ sym (is_in_single y z hy)
+one_member (z ∷ w ∷ zs) x y few hx hy = absurd (let no_more : ⊥ = omega (arith, few) in no_more)
+
+-- a list of which two members differ has two items
+pub two_members : (xs : List ℕ) (x y : ℕ) → x ≢ y → is_in x xs ≡ true → is_in y xs ≡ true → 2 ≤ length xs
+two_members [] x y other hx hy = absurd (is_in_none x [] refl hx)
+two_members (z ∷ []) x y other hx hy = absurd (other (is_in_single x z hx ∙ sym (is_in_single y z hy)))
+two_members (z ∷ w ∷ zs) x y other hx hy = omega arith
+
+-- a member that passes a test which some item passes
+pub any_at : (p : ℕ → Bool) (xs : List ℕ) → list_any p xs ≡ true → (x : ℕ) × (is_in x xs ≡ true) × (p x ≡ true)
+any_at p [] h = absurd (false≢true h)
+any_at p (y ∷ ys) h =
+    elim (or_cases (p y) (list_any p ys) h) [
+      | inl t ↦ (y, is_in-head y ys, t)
+      | inr q ↦ let k = any_at p ys q in (k.0, is_in-tail k.0 y ys k.1, k.2)
+    ]
+
+-- some item passes a test that a member passes
+pub any_from : (p : ℕ → Bool) (xs : List ℕ) (x : ℕ) → is_in x xs ≡ true → p x ≡ true → list_any p xs ≡ true
+any_from p [] x h t = absurd (false≢true h)
+any_from p (y ∷ ys) x h t =
+    let P : ℕ → Type 0 = λ z. p z ≡ true in
+    elim (is_in-cases x y ys h) [
+      | inl e ↦ or_left (p y) (list_any p ys) (subst P e t)
+      | inr m ↦ or_right (p y) (list_any p ys) (any_from p ys x m t)
+    ]
+
 pub some_member : (xs : List ℕ) → xs ≢ [] → (x : ℕ) × (is_in x xs ≡ true)
 some_member [] h = absurd (h refl)
 some_member (x ∷ xs) h = (x, is_in-head x xs)
@@ -407,6 +439,12 @@ range-rises width n h = record {
   rising = rises-range 0 n;
   below = All-members (λ x. x < width) (range_with_len 0 n) (λ x m. let q = ltb-true x n (sym (is_in-range_zero x n) ∙ m) in omega (arith, q));
 }
+
+-- the numbers below a bound, and the next
+pub with-range : (n : ℕ) → with_member n (range_with_len 0 n) ≡ range_with_len 0 (n + 1)
+with-range n =
+    with-last n (range_with_len 0 n) (range-rises n n (omega arith)).below
+    ∙ sym (ap (λ k. range_with_len 0 k) (add-one n) ∙ range-suc 0 n ∙ ap (λ k. range_with_len 0 n ++ k ∷ []) (zero-add n))
 
 pub united-rises : (width : ℕ) (xs ys : List ℕ) → IsRisingBelow width xs → IsRisingBelow width ys → IsRisingBelow width (united xs ys)
 united-rises width xs ys r s = record {

@@ -1,9 +1,10 @@
 -- What readers and printers need of names and of numbers: which bytes they have and which they have not.
-use Rattle.std.proofs.Common.{◌||◌, ◌≡◌, ◌≢◌, ℕ, ◌^◌, ◌<◌, ◌≤◌, Bool, true, false, not, ◌==◌, Some, None, Option, inl, inr, List, [], ◌∷◌, ◌++◌, length, get_or, refl, sym, ◌∙◌, ap, arith}
+use Rattle.std.proofs.Common.{◌||◌, ◌≡◌, ◌≢◌, ℕ, ◌^◌, ◌<◌, ◌≤◌, Bool, true, false, not, ◌==◌, Some, None, inl, inr, List, [], ◌∷◌, ◌++◌, length, get_or, refl, sym, ◌∙◌, ap, arith}
 use Rattle.std.specs.Fmt.{decimal}
 use Rattle.std.specs.List.{All, list_all, list_any, position}
 use Rattle.std.proofs.lemmas.Bool.{and_parts, or_cases, or_from, leb-true, eqb-true, ne_eqb, not_from_false, not_from_true, false≢true, false_from_ne_true}
 use Rattle.std.proofs.lemmas.List.Elements.{All-nil, All-cons}
+use Rattle.nego_base.proofs.OptionLaws.{none_or_some}
 use Rattle.nego_base.specs.Lines.{is_blank}
 use Rattle.nego_base.specs.Name.{is_name, is_letter, is_name_byte}
 use Rattle.nego_base.specs.Number.{is_digit, number_of}
@@ -134,10 +135,6 @@ decimal_no_name n h = false_from_ne_true _ (λ name. false≢true (sym (name_beg
 
 pub number_no_name : (bytes : List ℕ) (n : ℕ) → number_of bytes ≡ Some n → is_name bytes ≡ false
 number_no_name bytes n h = let spelled = number_is bytes n h in let few = spelled.1 in ap is_name spelled.0 ∙ decimal_no_name n (omega arith)
-
-none_or_some : (o : Option ℕ) → ((n : ℕ) → o ≡ Some n → ⊥) → o ≡ None
-none_or_some None h = refl
-none_or_some (Some n) h = absurd (h n refl)
 
 pub name_no_number : (bytes : List ℕ) → is_name bytes ≡ true → number_of bytes ≡ None
 name_no_number bytes h = none_or_some (number_of bytes) (λ n is. false≢true (sym (number_no_name bytes n is) ∙ h))

@@ -11,6 +11,7 @@ use Rattle.nego_base.specs.declared.line.Line.{Line}
 use Rattle.nego_base.specs.declared.line.Word.{Word}
 use Rattle.nego_base.specs.Lines.{is_newline, lines, without_end, words}
 use Rattle.nego_base.specs.Scan.{bad_byte, fault_at, long_fault, line_fault, faults_from, scan_fault, words_at, is_passed, line_at, line_if_kept, scanned_from, scanned, StandsIn}
+use Rattle.nego_base.proofs.OptionLaws.{or_none}
 use Rattle.nego_base.proofs.LineLaws.{words_none}
 use Rattle.nego_base.proofs.WordLaws.{texts_at, words_stand}
 
@@ -22,14 +23,9 @@ or_some : {X : Type 0} (o p : Option X) → is_some o ≡ true → option_or o p
 or_some None p h = absurd (false≢true h)
 or_some (Some x) p h = refl
 
-or_none : {X : Type 0} (o p : Option X) → is_some o ≡ false → option_or o p ≡ p
-or_none None p h = refl
-or_none (Some x) p h = absurd (false≢true (sym h))
-
--- neither gives anything
-pub both_none : {X : Type 0} (o p : Option X) → option_or o p ≡ None → (o ≡ None) × (p ≡ None)
-both_none None p h = (refl, h)
-both_none (Some x) p h = cc
+goes_on : {X : Type 0} (o p : Option X) → is_some o ≡ false → option_or o p ≡ p
+goes_on None p h = refl
+goes_on (Some x) p h = absurd (false≢true (sym h))
 
 -- What is left of a text begins with this line, which has this body and this first fault.
 pub record IsNext (number : ℕ) (rest line after body : List ℕ) : Type 0 where
@@ -48,7 +44,7 @@ module _ (number : ℕ) (rest line after body : List ℕ) (next : IsNext number 
 
   pub fault_later : (bytes : List ℕ) (fault : Option Fault) → faults_from number (lines rest) ≡ scan_fault bytes → fault ≡ line_fault number body → is_some fault ≡ false → faults_from (number + 1) (lines after) ≡ scan_fault bytes
   fault_later bytes fault same is none =
-      sym (or_none fault (faults_from (number + 1) (lines after)) none)
+      sym (goes_on fault (faults_from (number + 1) (lines after)) none)
       ∙ (ap (λ o. option_or o (faults_from (number + 1) (lines after))) is ∙ (sym fault_step ∙ same))
 
   pub lines_later : (bytes : List ℕ) (front back : List Line) → front ++ scanned_from number (lines rest) ≡ scanned bytes → back ≡ front ++ line_if_kept number body → back ++ scanned_from (number + 1) (lines after) ≡ scanned bytes
@@ -108,7 +104,7 @@ unfolding faults_from scanned_from
 in_bounds_from number [] h = All-nil IsInBounds
 in_bounds_from number (line ∷ rest) h =
     let body = without_end line in
-    let none = both_none (line_fault number body) (faults_from (number + 1) rest) h in
+    let none = or_none (line_fault number body) (faults_from (number + 1) rest) h in
     All-append IsInBounds (line_if_kept number body) (scanned_from (number + 1) rest)
     (cond_both (is_passed body) [] (line_at number body ∷ []) (All IsInBounds) (λ _. All-nil IsInBounds)
     (λ kept. All-cons IsInBounds (line_at number body) [] (line_in_bounds number body none.0 kept) (All-nil IsInBounds)))

@@ -1,6 +1,6 @@
 -- The first fault of a text is one of its lines and bytes, and a text without a fault has sound lines.
-use Rattle.std.proofs.Common.{◌≡◌, ℕ, ◌+◌, ◌<◌, ◌≤◌, Bool, true, false, not, ◌||◌, ◌&&◌, cond, ltb, min, nat_le, Some, None, Option, inl, inr, ◌↔◌, List, [], ◌∷◌, ◌++◌, length, take, get_or, subst, refl, sym, ◌∙◌, ap, arith}
-use Rattle.std.specs.List.{list_all, list_any, position}
+use Rattle.std.proofs.Common.{◌≡◌, ℕ, ◌+◌, ◌<◌, ◌≤◌, Bool, true, not, ◌||◌, ltb, min, nat_le, Some, None, Option, inl, inr, ◌↔◌, List, [], ◌∷◌, length, take, subst, refl, sym, ◌∙◌, ap, arith}
+use Rattle.std.specs.List.{list_all, position}
 use Rattle.std.specs.Option.{option_or, option_map_or}
 use Rattle.std.proofs.lemmas.Bool.{cases_Bool, and_parts, and_from, or_left, or_right, or_cases, cond-true, cond-false, leb-true, le-leb, ltb-true, le-ltb, not-true, not_from_true, false≢true}
 use Rattle.std.proofs.lemmas.List.{get_or-take, take-take, take_all, length-take}
@@ -9,12 +9,13 @@ use Rattle.nego_base.specs.declared.fault.Fault.{Fault}
 use Rattle.nego_base.specs.declared.fault.FaultKind.TheVariants as kinds
 use Rattle.nego_base.specs.Lines.{lines, without_end}
 use Rattle.nego_base.specs.Scan.{is_comment, may_stand, bad_byte, fault_at, long_fault, line_fault, faults_from, scan_fault}
-use Rattle.nego_base.specs.Sound.{is_sound_line, IsBadByte, IsLong, IsLineFault, IsFirstFault}
+use Rattle.nego_base.specs.Sound.{is_sound_line, IsBadByte, IsLineFault, IsFirstFault}
 use Rattle.nego_base.proofs.Cases.{guard}
 use Rattle.nego_base.proofs.Cuts.{none_fails}
 use Rattle.nego_base.proofs.NameLaws.{none_where_all}
 use Rattle.nego_base.proofs.Places.{IsFirst, first_place, no_place, place_none}
-use Rattle.nego_base.proofs.ScanLaws.{both_none, short_line}
+use Rattle.nego_base.proofs.ScanLaws.{short_line}
+use Rattle.nego_base.proofs.OptionLaws.{or_none}
 
 abbrev off : ℕ → Bool
 off b = not (may_stand b)
@@ -98,7 +99,7 @@ unfolding faults_from
 sound_from number [] = (λ _. refl, λ _. refl)
 sound_from number (line ∷ rest) =
     let more = sound_from (number + 1) rest in (
-      λ h. let none = both_none (line_fault number (without_end line)) (faults_from (number + 1) rest) h in and_from _ _ (sound_line number line none.0) (more.0 none.1),
+      λ h. let none = or_none (line_fault number (without_end line)) (faults_from (number + 1) rest) h in and_from _ _ (sound_line number line none.0) (more.0 none.1),
       λ h.
           let parts = and_parts (is_sound_line line) (list_all is_sound_line rest) h in
           ap (λ o. option_or o (faults_from (number + 1) rest)) (line_fault-sound number line parts.0) ∙ more.1 parts.1,

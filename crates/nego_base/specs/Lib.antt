@@ -1,4 +1,6 @@
+pub mod Appending
 pub mod Bits
+pub mod Firsts
 pub mod Grammar
 pub mod Lends
 pub mod Lines

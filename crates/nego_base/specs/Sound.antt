@@ -1,10 +1,10 @@
 -- What it means that a text of lines has a fault, or none, said of its lines and bytes.
-use Rattle.std.specs.Prelude.{◌≡◌, ℕ, ◌+◌, ◌<◌, Bool, true, false, ◌||◌, ◌&&◌, nat_le, List, [], ◌∷◌, ◌++◌, length, take, slice_index}
+use Rattle.std.specs.Prelude.{◌≡◌, ℕ, ◌+◌, ◌<◌, Bool, true, false, ◌||◌, ◌&&◌, nat_le, List, ◌∷◌, ◌++◌, length, take, slice_index}
 use Rattle.std.specs.List.{list_all}
 use Rattle.nego_base.specs.declared.fault.FaultKind.{FaultKind}
 use Rattle.nego_base.specs.declared.fault.FaultKind.TheVariants as kinds
 use Rattle.nego_base.specs.declared.fault.Fault.{Fault}
-use Rattle.nego_base.specs.Lines.{lines, without_end}
+use Rattle.nego_base.specs.Lines.{without_end}
 use Rattle.nego_base.specs.Scan.{is_comment, may_stand}
 
 -- whether a line, with its end, has at most 1,024 bytes without it, and none that may not stand there

@@ -1,4 +1,4 @@
-ghost use Rattle.std.specs.Prelude.{◌≡◌, ◌==◌, ◌+◌, ◌-◌, ◌<◌, ◌≤◌, ◌↔◌, [], ◌∷◌, ◌++◌, length, take, OnOk, OnErr, IfOk, IsOk, IsSome, slice_get, slice_set, insert, remove, swap};
+ghost use Rattle.std.specs.Prelude.{◌≡◌, ◌==◌, ◌+◌, ◌-◌, ◌<◌, ◌≤◌, ◌↔◌, [], ◌∷◌, ◌++◌, length, take, OnOk, OnErr, IfOk, IsOk, IsSome, slice_get, slice_set, insert, remove, swap, decimal};
 ghost use Rattle.std.specs.List.Sorted.{IsPermutation, IsSorted, IsStable, IsSortedByKeyClosure, IsStableByKeyClosure};
 ghost use Rattle.std.specs.Option.{option_copied, option_to_list};
 
@@ -235,6 +235,15 @@ impl Seq<u8> {
         ensures { IfOk result (λ t. t ≡ bytes.now) }
     {
         Seq::copy_of(alloc, bytes)
+    }
+
+    /// Puts the decimal of a number at the end.
+    pub fn push_decimal(&mut self, n: u64) -> Result<(), Memory>
+        ensures ok { OnOk result (self.new ≡ self.old ++ decimal n) }
+        ensures err { OnErr result (self.new ≡ self.old) }
+    {
+        let mut digits = itoa::Buffer::new();
+        self.extend_from_slice(digits.format(n).as_bytes())
     }
 }
 

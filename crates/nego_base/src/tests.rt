@@ -41,8 +41,9 @@ fn lists(rt: &impl Abort, alloc: Global) -> Result<(), Fail> {
         Seq::from_vec(list.into_vec()),
         Seq::copy_of(alloc, &[3, 1, 2, 7, 8, 9])?
     );
-    let text = Text::copy(alloc, b"end")?;
-    assert_eq!(rt; text.as_slice(), b"end".as_slice());
+    let mut text = Text::copy(alloc, b"end ")?;
+    text.push_decimal(u64::MAX)?;
+    assert_eq!(rt; text.as_slice(), b"end 18446744073709551615".as_slice());
     Ok(())
 }
 
@@ -118,6 +119,12 @@ fn agents(rt: &impl Abort) {
     assert!(rt; rest.within(set) && !set.within(rest) && rest.meets(set));
     assert!(rt; !rest.meets(AgentSet::none().with(AgentId(0))));
     assert_eq!(rt; AgentSet::none().least(), None);
+    assert_eq!(rt; rest.union(AgentSet::below(1)), set);
+    assert_eq!(rt;
+        set.difference(AgentSet::below(5)),
+        AgentSet::none().with(AgentId(15))
+    );
+    assert_eq!(rt; AgentSet::below(16).count(), 16);
 }
 
 fn atoms(rt: &impl Abort) {
@@ -132,6 +139,12 @@ fn atoms(rt: &impl Abort) {
     assert!(rt; rest.within(set) && !set.within(rest) && rest.meets(set));
     assert!(rt; !rest.meets(AtomSet::none().with(AtomId(31))));
     assert_eq!(rt; AtomSet::none().least(), None);
+    assert_eq!(rt; rest.union(AtomSet::none().with(AtomId(31))), set);
+    assert_eq!(rt;
+        set.difference(AtomSet::below(63)),
+        AtomSet::none().with(AtomId(63))
+    );
+    assert_eq!(rt; AtomSet::below(64).count(), 64);
 }
 
 fn names(rt: &impl Abort) {

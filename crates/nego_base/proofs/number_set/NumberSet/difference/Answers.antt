@@ -12,4 +12,3 @@ returns-clause-others g c = rw (← c.other.view_is) (members-rise g.row.WIDTH c
 
 pub returns-clause-rising : goal.returns-clause-rising
 returns-clause-rising g c = members-rise g.row.WIDTH _
-

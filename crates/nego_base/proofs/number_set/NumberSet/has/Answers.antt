@@ -6,4 +6,3 @@ returns-clause-value g c = rw (← c.self.view_is) (members-has g.row.WIDTH c.ar
 
 pub returns-clause-members : goal.returns-clause-members
 returns-clause-members g c = rw (← c.self.view_is) (members-rise g.row.WIDTH c.self.inside.bits)
-

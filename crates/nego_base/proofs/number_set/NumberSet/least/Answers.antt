@@ -20,4 +20,3 @@ returns-clause-bound g c = least_below g.row.WIDTH c.self.inside.bits (omega ari
 
 pub returns-clause-members : goal.returns-clause-members
 returns-clause-members g c = rw (← c.self.view_is) (members-rise g.row.WIDTH c.self.inside.bits)
-

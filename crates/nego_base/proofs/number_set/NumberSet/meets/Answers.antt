@@ -9,4 +9,3 @@ returns-clause-members g c = rw (← c.self.view_is) (members-rise g.row.WIDTH c
 
 pub returns-clause-others : goal.returns-clause-others
 returns-clause-others g c = rw (← c.other.view_is) (members-rise g.row.WIDTH c.other.inside.bits)
-

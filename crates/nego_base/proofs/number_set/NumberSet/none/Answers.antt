@@ -6,4 +6,3 @@ returns-clause-value g c = members-none g.row.WIDTH
 
 pub returns-clause-rising : goal.returns-clause-rising
 returns-clause-rising g c = members-rise g.row.WIDTH 0
-

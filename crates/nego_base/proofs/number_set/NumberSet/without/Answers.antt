@@ -9,4 +9,3 @@ returns-clause-members g c = rw (← c.self.view_is) (members-rise g.row.WIDTH c
 
 pub returns-clause-rising : goal.returns-clause-rising
 returns-clause-rising g c = members-rise g.row.WIDTH _
-
