@@ -1,12 +1,16 @@
 -- When a search finds nothing, and where what it finds stands.
-use Rattle.std.proofs.Common.{◌≡◌, ℕ, zero, suc, ◌+◌, ◌<◌, Bool, true, false, List, [], ◌∷◌, length, take, get_or, Option, Some, None, slice_get, ⊎_elim, refl, sym, ap, subst, ◌∙◌, arith}
+use Rattle.std.proofs.Common.{◌≡◌, ℕ, zero, suc, ◌+◌, ◌<◌, ◌≤◌, Bool, true, false, nat_lt, List, [], ◌∷◌, length, take, get_or, Option, Some, None, slice_get, inl, inr, ⊎_elim, refl, sym, ap, subst, ◌∙◌, arith, lt-ltb}
+use Rattle.std.proofs.lemmas.Bool.{cases_eq, cases_lt}
+use Rattle.std.proofs.lemmas.Bool.Decides.{nat_tests}
+use Rattle.std.proofs.lemmas.List.Sums.{fails_before_first}
 use Rattle.std.proofs.lemmas.List.{get_or-take, length-take-le, get_or_default}
 use Rattle.std.proofs.lemmas.List.Elements.{All-nil, All-cons, All-head, All-tail}
 use Rattle.std.proofs.lemmas.List.Quantifiers.{position-Some}
-use Rattle.std.proofs.lemmas.Option.{none-some, slice_get-get_or, get_or_from_slice_get}
-use Rattle.std.specs.List.{All, AllPairs, position}
+use Rattle.std.proofs.lemmas.Option.{none-some, same_Some, slice_get-get_or, get_or_from_slice_get}
+use Rattle.std.specs.List.{All, AllPairs, position, position_or_len, find, range_with_len}
 use Rattle.std.specs.Option.{option_or}
 use Rattle.nego_base.specs.Firsts.{first_among, first_numbered}
+use Rattle.nego_base.proofs.Cases.{chosen}
 use Rattle.nego_base.proofs.OptionLaws.{or_none, or_some, none_or_none}
 
 -- ---- nothing is found
@@ -143,3 +147,68 @@ first_some test (x ∷ xs) i h =
       passes = r.1;
       before = λ k other at l. subst (λ z. test z ≡ false) (get_or_from_slice_get (x ∷ xs) k other x at) (r.2 k l);
     }
+
+-- ---- places
+
+-- the number of items where each fails
+past_all : {A : Type 0} (p : A → Bool) (xs : List A) → All (λ x. p x ≡ false) xs → position_or_len p xs ≡ length xs
+past_all p [] h = refl
+past_all p (x ∷ xs) h =
+    let k = past_all p xs (All-tail (λ y. p y ≡ false) x xs h) in
+    rw (All-head (λ y. p y ≡ false) x xs h) (omega (arith, k))
+
+below_itself : (n : ℕ) → nat_lt n n ≡ false
+below_itself n = grind (arith, nat_tests)
+
+-- no place where each item fails
+pub none_first : {A : Type 0} (p : A → Bool) (xs : List A) → All (λ x. p x ≡ false) xs → position p xs ≡ None
+none_first p xs h = rw (past_all p xs h, below_itself (length xs)) refl
+
+-- and the way back
+pub position_none : {A : Type 0} (p : A → Bool) (xs : List A) → position p xs ≡ None → All (λ x. p x ≡ false) xs
+position_none p xs e k d h = elim (cases_lt (position_or_len p xs) (length xs)) [
+  | inl found ↦ let t = lt-ltb (position_or_len p xs) (length xs) found in absurd (let q = rw t at e in cc)
+  | inr past ↦ fails_before_first p xs k d (omega arith)
+]
+
+-- ---- ranges
+
+-- the first number of a range that passes a test
+pub first_in_range : (test : ℕ → Bool) (k n d : ℕ) → k ≤ d → d < k + n → ((e : ℕ) → k ≤ e → e < d → test e ≡ false) → test d ≡ true → find test (range_with_len k n) ≡ Some d
+first_in_range test k zero d low high before h = absurd (omega (arith, low, high))
+first_in_range test k (suc n) d low high before h = elim (cases_eq k d) [
+  | inl is ↦ rw (ap test is ∙ h) (ap (λ m. Some m) is)
+  | inr other ↦ rw (before k (omega arith) (omega (arith, low, other))) (first_in_range test (k + 1) n d (omega (arith, low, other)) (omega (arith, high)) (λ e l m. before e (omega (arith, l)) m) h)
+]
+
+-- no number of a range passes a test
+pub none_in_range : (test : ℕ → Bool) (k n : ℕ) → ((e : ℕ) → k ≤ e → e < k + n → test e ≡ false) → find test (range_with_len k n) ≡ None
+none_in_range test k zero h = refl
+none_in_range test k (suc n) h = rw (h k (omega arith) (omega arith)) (none_in_range test (k + 1) n (λ e l m. h e (omega (arith, l)) (omega (arith, m))))
+
+-- each number of a range fails where none is found
+pub none_found : (test : ℕ → Bool) (k n : ℕ) → find test (range_with_len k n) ≡ None → (e : ℕ) → k ≤ e → e < k + n → test e ≡ false
+none_found test k zero h e low high = absurd (omega (arith, low, high))
+none_found test k (suc n) h e low high = elim (chosen (test k) (Some k) (find test (range_with_len (k + 1) n)) None h) [
+  | inl here ↦ absurd (none-some k (sym here.1))
+  | inr later ↦ elim (cases_eq e k) [
+    | inl is ↦ subst (λ m. test m ≡ false) (sym is) later.0
+    | inr other ↦ none_found test (k + 1) n later.1 e (omega (arith, low, other)) (omega (arith, high))
+  ]
+]
+
+-- what is found in a range
+pub found_in_range : (test : ℕ → Bool) (k n d : ℕ) → find test (range_with_len k n) ≡ Some d → (k ≤ d) × (d < k + n) × (test d ≡ true) × ((e : ℕ) → k ≤ e → e < d → test e ≡ false)
+found_in_range test k zero d h = absurd (none-some d h)
+found_in_range test k (suc n) d h = elim (chosen (test k) (Some k) (find test (range_with_len (k + 1) n)) (Some d) h) [
+  | inl here ↦
+      let is : k ≡ d = same_Some k d here.1 in
+      (omega (arith, is), omega (arith, is), subst (λ m. test m ≡ true) is here.0, λ e l m. absurd (omega (arith, is, l, m)))
+  | inr later ↦
+      let rest = found_in_range test (k + 1) n d later.1 in (
+        omega (arith, rest.0),
+        omega (arith, rest.1),
+        rest.2,
+        λ e l m. elim (cases_eq e k) [ inl is ↦ subst (λ i. test i ≡ false) (sym is) later.0 | inr other ↦ rest.3 e (omega (arith, l, other)) m ],
+      )
+]

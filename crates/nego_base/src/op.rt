@@ -1,4 +1,4 @@
-/// How a guard compares an agent's variable with a number.
+/// How a comparison compares its left side, an agent's value, with its right, a number or an agent's value.
 #[derive(Clone, Copy, Debug, PartialEq, Eq)]
 pub enum Op {
     /// Equal.

@@ -11,5 +11,4 @@ pub mod Acting
 pub mod CaseRelations
 pub mod Offsets
 pub mod Additions
-pub mod SomeMember
 pub mod Uncovered

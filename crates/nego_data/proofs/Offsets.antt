@@ -5,9 +5,8 @@ use Rattle.std.proofs.lemmas.List.{length-take-le, get_or-take, get_or_past}
 use Rattle.std.proofs.lemmas.List.FromFn.{length-map-range_with_len, get_or-map-range_with_len}
 use Rattle.std.specs.List.{list_any, range_with_len}
 use Rattle.nego_base.specs.Members.{is_in}
-use Rattle.nego_base.proofs.Members.{is_in-filter, is_in-range_zero, all_at, all_from}
+use Rattle.nego_base.proofs.Members.{any_at, any_from, is_in-filter, is_in-range_zero, all_at, all_from}
 use Rattle.nego_base.proofs.BoolLaws.{same_tests}
-use Rattle.nego_data.proofs.SomeMember.{any_at, any_from}
 use Rattle.nego_data.specs.declared.cases.Term.{Term}
 use Rattle.nego_data.specs.declared.cases.Term.TheVariants as terms
 use Rattle.nego_data.specs.declared.cases.Case.{Case}

@@ -1,6 +1,6 @@
 -- What may be asked of cases: whom they name, what they assign, and what they cover.
-use Rattle.std.specs.Prelude.{◌≢◌, ℕ, ◌<◌, List, [], ◌∷◌, slice_index, IsTrue, ⊤, AllPairs}
-use Rattle.std.specs.List.{All, list_any}
+use Rattle.std.specs.Prelude.{◌≢◌, ℕ, ◌<◌, List, [], ◌∷◌, not, find, Option, Some, None, Result, Ok, Err, IsTrue, ⊤, AllPairs}
+use Rattle.std.specs.List.{All, list_any, range_with_len}
 use Rattle.nego_base.specs.Members.{is_in}
 use Rattle.nego_data.specs.declared.cases.Operand.{Operand}
 use Rattle.nego_data.specs.declared.cases.Operand.TheVariants as operands
@@ -12,6 +12,7 @@ use Rattle.nego_data.specs.declared.cases.Case.{Case}
 use Rattle.nego_data.specs.declared.making.TableFault.{TableFault}
 use Rattle.nego_data.specs.declared.making.TableFault.TheVariants.{NotTotal, Memory}
 use Rattle.nego_data.specs.Data.{data_count, split}
+use Rattle.nego_data.specs.Places.{place_of, value_of}
 use Rattle.nego_data.specs.Cases.{covers}
 
 -- the agents that the right side of a comparison names
@@ -44,7 +45,7 @@ FitsSize (terms.Minus b n) size = ⊤
 
 -- Each number that the case assigns is below its agent's size.
 abbrev pub AssignsBelow : List ℕ → Case → Type 0
-AssignsBelow sizes case = All (λ set. FitsSize set.term (slice_index sizes set.agent.0)) case.sets
+AssignsBelow sizes case = All (λ set. FitsSize set.term (value_of set.agent sizes)) case.sets
 
 -- Some case covers the joint data.
 abbrev pub IsCovered : List ℕ → List Case → ℕ → Type 0
@@ -53,6 +54,16 @@ IsCovered sizes cases d = IsTrue (list_any (λ case. covers case (split sizes d)
 -- Some case covers each joint data.
 abbrev pub AllCovered : List ℕ → List Case → Type 0
 AllCovered sizes cases = (d : ℕ) → d < data_count sizes → IsCovered sizes cases d
+
+-- the least joint data that no case covers
+abbrev pub first_uncovered : List ℕ → List Case → Option ℕ
+first_uncovered sizes cases = find (λ d. not (list_any (λ case. covers case (split sizes d)) cases)) (range_with_len 0 (data_count sizes))
+
+-- the joint data that an answer without a table names
+abbrev pub named_uncovered : {T : Type 0} → Result T TableFault → Option ℕ
+named_uncovered (Ok table) = None
+named_uncovered (Err (NotTotal d)) = Some d
+named_uncovered (Err Memory) = None
 
 -- This is the least joint data that no case covers.
 pub record IsFirstUncovered (sizes : List ℕ) (cases : List Case) (d : ℕ) : Type 0 where
@@ -65,9 +76,9 @@ abbrev pub HasTableFault : List ℕ → List Case → TableFault → Type 0
 HasTableFault sizes cases (NotTotal d) = IsFirstUncovered sizes cases d
 HasTableFault sizes cases Memory = AllCovered sizes cases
 
--- No agent is assigned twice.
+-- No value is assigned twice.
 abbrev pub AssignsOnce : Case → Type 0
-AssignsOnce case = AllPairs (λ one two. one.agent.0 ≢ two.agent.0) case.sets
+AssignsOnce case = AllPairs (λ one two. place_of one.agent ≢ place_of two.agent) case.sets
 
 -- An agent on the right side of a comparison is below the count.
 abbrev pub OperandBelow : ℕ → Operand → Type 0

@@ -11,6 +11,7 @@ use Rattle.nego_data.specs.declared.cases.Test.{Test}
 use Rattle.nego_data.specs.declared.cases.Set.{Set}
 use Rattle.nego_data.specs.declared.cases.Case.{Case}
 use Rattle.nego_data.specs.Data.{data_count, split}
+use Rattle.nego_data.specs.Places.{place_of, value_of}
 use Rattle.nego_data.specs.Tables.{rows_by}
 
 -- whether the comparison of two numbers holds
@@ -25,38 +26,38 @@ compares Ge a b = nat_le b a
 -- the number on the right of a comparison
 abbrev pub operand_value : Operand → List ℕ → ℕ
 operand_value (operands.Number n) values = n
-operand_value (operands.Value b) values = slice_index values b.0
+operand_value (operands.Value b) values = value_of b values
 
 -- whether a comparison holds of these values
 abbrev pub test_holds : Test → List ℕ → Bool
-test_holds test values = compares test.op (slice_index values test.agent.0) (operand_value test.right values)
+test_holds test values = compares test.op (value_of test.agent values) (operand_value test.right values)
 
 -- whether an agent of this size may have the value after it was assigned the term
 abbrev pub gives : Term → ℕ → List ℕ → ℕ → Bool
 gives terms.Any size values value = nat_lt value size
 gives (terms.Number n) size values value = value == n
-gives (terms.Plus b n) size values value = value == min (slice_index values b.0 + n) (size - 1)
-gives (terms.Minus b n) size values value = value == min (slice_index values b.0 - n) (size - 1)
+gives (terms.Plus b n) size values value = value == min (value_of b values + n) (size - 1)
+gives (terms.Minus b n) size values value = value == min (value_of b values - n) (size - 1)
 
--- what is assigned to the agent
+-- what is assigned to the value at a place
 abbrev pub term_for : List Set → ℕ → Option Term
-term_for [] a = None
-term_for (set ∷ sets) a = if set.agent.0 == a then Some set.term else term_for sets a
+term_for [] k = None
+term_for (set ∷ sets) k = if place_of set.agent == k then Some set.term else term_for sets k
 
 -- A case covers values of which all its comparisons hold.
 abbrev pub covers : Case → List ℕ → Bool
 covers case values = list_all (λ test. test_holds test values) case.tests
 
--- whether an agent of this size that is assigned this, or nothing, may have the value after `old`
+-- whether a value of this size that is assigned this, or nothing, may follow `old`
 abbrev pub agent_follows : Option Term → ℕ → List ℕ → ℕ → ℕ → Bool
 agent_follows None size values old new = new == old
 agent_follows (Some term) size values old new = gives term size values new
 
--- whether the agents from a on, of these sizes, follow the assignments
+-- whether the values from place k on, of these sizes, follow the assignments
 abbrev pub agents_follow : ℕ → List ℕ → List Set → List ℕ → List ℕ → Bool
-agents_follow a [] sets old new = true
-agents_follow a (size ∷ sizes) sets old new =
-    agent_follows (term_for sets a) size old (slice_index old a) (slice_index new a) && agents_follow (a + 1) sizes sets old new
+agents_follow k [] sets old new = true
+agents_follow k (size ∷ sizes) sets old new =
+    agent_follows (term_for sets k) size old (slice_index old k) (slice_index new k) && agents_follow (k + 1) sizes sets old new
 
 -- Whether a case relates values to values: it covers the first, each agent that it assigns has its term's value,
 -- and every other agent the value as before.

@@ -3,14 +3,15 @@ use Rattle.std.specs.Prelude.{ℕ, ◌+◌, ◌-◌, min, Bool, true, false, ◌
 use Rattle.std.specs.List.{list_all, range_with_len}
 use Rattle.nego_base.specs.Members.{is_in}
 use Rattle.nego_data.specs.declared.cases.Term.{Term}
+use Rattle.nego_data.specs.Places.{value_of}
 use Rattle.nego_data.specs.declared.cases.Term.TheVariants.{Any, Number, Plus, Minus}
 
 -- the least value that a term gives an agent of this size
 abbrev pub least_given : Term → ℕ → List ℕ → ℕ
 least_given Any size values = 0
 least_given (Number n) size values = n
-least_given (Plus b n) size values = min (slice_index values b.0 + n) (size - 1)
-least_given (Minus b n) size values = min (slice_index values b.0 - n) (size - 1)
+least_given (Plus b n) size values = min (value_of b values + n) (size - 1)
+least_given (Minus b n) size values = min (value_of b values - n) (size - 1)
 
 -- the least value that an agent of this size may have who is assigned this, or nothing, after `old`
 abbrev pub least_after : Option Term → ℕ → List ℕ → ℕ → ℕ

@@ -1,4 +1,5 @@
 pub mod Data
+pub mod Places
 pub mod Sizes
 pub mod Kept
 pub mod BitRows

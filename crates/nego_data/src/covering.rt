@@ -8,6 +8,7 @@ ghost use Rattle.nego_data.specs.CaseForm.{TestBelow, OperandBelow};
 
 use crate::Sizes;
 use crate::cases::{Case, Operand, Test};
+use crate::places::place_of;
 use nego_base::Op;
 
 /// The least joint data that no case covers.
@@ -39,7 +40,7 @@ fn test_holds(test: &Test, values: &[u16; 16]) -> bool
     requires { TestBelow 16 test.now }
     ensures { result ≡ test_holds test.now values.now }
 {
-    let left = u32::from(values[test.agent.0 as usize]);
+    let left = u32::from(values[place_of(test.agent)]);
     compares(test.op, left, operand_value(test.right, values))
 }
 
@@ -50,7 +51,7 @@ fn operand_value(operand: Operand, values: &[u16; 16]) -> u32
 {
     match operand {
         Operand::Number(n) => n,
-        Operand::Value(b) => u32::from(values[b.0 as usize]),
+        Operand::Value(b) => u32::from(values[place_of(b)]),
     }
 }
 

@@ -11,6 +11,7 @@ ghost use Rattle.nego_data.specs.Given.{least_given, least_after, is_any, is_fre
 use crate::Sizes;
 use crate::bit_row::BitRow;
 use crate::cases::{Case, Term};
+use crate::places::place_of;
 use nego_base::{AgentId, AgentSet};
 
 /// The least values that the agents may have after the case.
@@ -26,7 +27,7 @@ pub(crate) fn least_values(sizes: &Sizes, case: &Case, old: &[u16; 16]) -> [u16;
 {
     let mut new = *old;
     for set in case.sets.iter() {
-        new[set.agent.0 as usize] = least_given(set.term, sizes.size(set.agent), old);
+        new[place_of(set.agent)] = least_given(set.term, sizes.size(set.agent), old);
     }
     new
 }
@@ -42,11 +43,11 @@ fn least_given(term: Term, size: u16, old: &[u16; 16]) -> u16
         Term::Any => 0,
         Term::Number(n) => n as u16,
         Term::Plus(b, n) => {
-            let sum = u64::from(old[b.0 as usize]) + u64::from(n);
+            let sum = u64::from(old[place_of(b)]) + u64::from(n);
             sum.min(u64::from(size - 1)) as u16
         }
         Term::Minus(b, n) => {
-            let difference = u32::from(old[b.0 as usize]).saturating_sub(n);
+            let difference = u32::from(old[place_of(b)]).saturating_sub(n);
             difference.min(u32::from(size - 1)) as u16
         }
     }

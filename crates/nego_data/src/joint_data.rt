@@ -1,8 +1,11 @@
 //! The joint data of the agents: a value for each, numbered so that the first agent is the most significant.
 ghost use Rattle.std.specs.Prelude.{◌≡◌, ◌-◌, ◌<◌, ◌≤◌, ◌++◌, ◌==◌, nat_lt, length, replicate, slice_index, position, IfOk, IfErr, All};
 ghost use Rattle.nego_data.specs.Data.{data_count, joint};
-ghost use Rattle.nego_data.specs.Sizes.{AreSizes, HasFault, AreBelow, tuple_of};
+ghost use Rattle.nego_data.specs.Sizes.{AreSizes, HasFault, fault_of_sizes, place_past_joint, AreBelow, tuple_of};
+ghost use Rattle.std.specs.Option.{option_map};
+ghost use Rattle.std.specs.Result.{result_err};
 
+use crate::places::place_of;
 use nego_base::AgentId;
 use std::marker::Model;
 use thiserror::Error;
@@ -60,6 +63,7 @@ impl Sizes {
         requires few_agents { length sizes.now ≤ 16 }
         ensures ok { IfOk result (λ s. s ≡ sizes.now) }
         ensures sizes { IfOk result AreSizes }
+        ensures fault { result_err result ≡ fault_of_sizes sizes.now }
         ensures err { IfErr result (HasFault sizes.now) }
     {
         if let Some(a) = first_zero(sizes) {
@@ -90,7 +94,7 @@ impl Sizes {
         ensures value { result ≡ slice_index self.now a.0 }
         ensures sizes { AreSizes self.now }
     {
-        self.sizes[a.0 as usize]
+        self.sizes[place_of(a)]
     }
 
     /// How many joint data there are: the product of the sizes.
@@ -152,7 +156,7 @@ fn product(sizes: &[u32]) -> Result<u16, SizeFault>
     requires each { All (λ size. (0 < size) × (size ≤ 64)) sizes.now }
     ensures ok { IfOk result (λ all. all ≡ data_count sizes.now) }
     ensures small { IfOk result (λ all. all ≤ 1024) }
-    ensures err { IfErr result (HasFault sizes.now) }
+    ensures err { result_err result ≡ option_map (λ k. SizeFault.JointTooLarge (record { 0 = k })) (place_past_joint sizes.now) }
 {
     let mut all = 1;
     for (a, size) in sizes.iter().enumerate() {

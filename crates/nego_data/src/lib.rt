@@ -8,6 +8,7 @@ mod giving;
 mod joint_data;
 pub mod laws;
 mod making;
+mod places;
 mod rows;
 #[cfg(test)]
 mod tests;

@@ -3,7 +3,7 @@ ghost use Rattle.std.specs.Prelude.{◌≡◌, ◌≢◌, ℕ, ◌<◌, ◌||◌
 ghost use Rattle.nego_data.specs.Data.{data_count};
 ghost use Rattle.nego_data.specs.Tables.{IsTable, is_related};
 ghost use Rattle.nego_data.specs.Cases.{relates, rows_of};
-ghost use Rattle.nego_data.specs.CaseForm.{NamesOnly, AssignsOnce, AssignsBelow, IsNamedBelow, AllCovered, HasTableFault};
+ghost use Rattle.nego_data.specs.CaseForm.{NamesOnly, AssignsOnce, AssignsBelow, IsNamedBelow, AllCovered, HasTableFault, first_uncovered, named_uncovered};
 ghost use Rattle.nego_data.specs.Locality.{ActsOn};
 ghost use Rattle.nego_data.specs.declared.making.TableFault.TheVariants.{Memory as Starved};
 
@@ -52,6 +52,7 @@ pub fn table_of(
     ensures acts { IfOk result (λ table. ActsOn sizes.now parties (λ d e. IsTrue (is_related table d e))) }
     ensures covered { IfOk result (λ table. AllCovered sizes.now cases.now) }
     ensures total { IfOk result (All (λ row. row ≢ [])) }
+    ensures uncovered { named_uncovered result ≡ first_uncovered sizes.now cases.now }
     ensures err { IfErr result (HasTableFault sizes.now cases.now) }
 {
     let all = sizes.all();

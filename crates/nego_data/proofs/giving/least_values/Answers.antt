@@ -20,9 +20,9 @@ loop-set-preserved c =
     let below = subst (All (SetBelow (length c.args.sizes.now))) (sym c.deref-set-items.ensures) c.requires.agents i nobody c.loop-set-test.true in
     let value = c.least_given.ensures ∙ ap (λ n. least_given item.term n c.args.old.now) c.size.ensures.value in
     record {
-      sixteen = length-set c.loop-set.new item.agent.0 c.least_given.result ∙ c.loop-set.invariant.sixteen;
-      least = next_least (of_sets items) i nobody once c.loop-set-test.true c.args.sizes.now c.args.old.now c.loop-set.new c.least_given.result
-          (omega (arith, few, c.loop-set.invariant.sixteen)) below.0 value c.loop-set.invariant.least;
+      sixteen = length-set c.loop-set.new c.place_of.result c.least_given.result ∙ c.loop-set.invariant.sixteen;
+      least = rw c.place_of.ensures (next_least (of_sets items) i nobody once c.loop-set-test.true c.args.sizes.now c.args.old.now c.loop-set.new c.least_given.result
+          (omega (arith, few, c.loop-set.invariant.sixteen)) below.0 value c.loop-set.invariant.least);
     }
 
 pub returns-clause-in_range : goal.returns-clause-in_range

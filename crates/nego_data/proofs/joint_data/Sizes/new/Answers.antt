@@ -1,10 +1,16 @@
-use Rattle.std.proofs.Common.{sym, ◌∙◌}
-use Rattle.nego_data.proofs.SizeFaults.{no_zero, all_in_bounds, kept_from_bounds}
+use Rattle.std.proofs.Common.{sym, ◌∙◌, rules}
+use Rattle.nego_data.proofs.SizeFaults.{answered_fault, no_zero, all_in_bounds, kept_from_bounds}
 use Rattle.nego_data.proofs.joint_data.Sizes.new.Goals as goal
 
 pub returns-in-Some-first_too_large-clause-err : goal.returns-in-Some-first_too_large-clause-err
 returns-in-Some-first_too_large-clause-err c =
     (no_zero c.args.sizes.now (sym c.first_zero.ensures ∙ c.in_default.is), sym c.first_too_large.ensures ∙ c.in-Some-first_too_large.is)
+
+pub returns-in_err-all-clause-fault : goal.returns-in_err-all-clause-fault
+returns-in_err-all-clause-fault c = search rules
+
+pub returns-in_err-all-clause-err : goal.returns-in_err-all-clause-err
+returns-in_err-all-clause-err c = answered_fault c.args.sizes.now c.from_residual.result (returns-in_err-all-clause-fault c)
 
 pub product-requires-clause-each : goal.product-requires-clause-each
 product-requires-clause-each c =
