@@ -17,7 +17,7 @@ pub record HasTaken (old now : Option (List ℕ)) (bytes : List ℕ) (start line
   pub told : Takes bytes old now
   pub unended : IsOpen bytes start lines
   pub size : length bytes ≡ count
-  pub later : first ≤ last
+  pub stayed : last ≡ first
 
 -- These bytes were taken, which are no longer than a part.
 taken_within : (limit : ℕ) (bytes : List ℕ) (old new : Option (List ℕ)) → FitsParts bytes → length bytes ≤ limit + 1 → Takes bytes old new → WhereTold old new (TakesWithin limit)

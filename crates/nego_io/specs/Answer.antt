@@ -26,9 +26,10 @@ Answers limit (Err TooLong) before now = (reading limit before ≡ PastLimit) ×
 Answers limit (Err (NoEnd line)) before now = (reading limit before ≡ Unended line) × (now ≡ [])
 Answers limit (Err Memory) before now = TakesWithin limit before now
 
--- The source's count rose where the answer is its fault.
-abbrev pub FaultHasCause : ReadAnswer → ℕ → ℕ → Type 0
-FaultHasCause ReadFault before now = Rose before now
-FaultHasCause TooLong before now = Unit {0}
-FaultHasCause (NoEnd line) before now = Unit {0}
-FaultHasCause Memory before now = Unit {0}
+-- The count of faults rose where the answer is a fault of the source, and stayed where it is any other.
+abbrev pub PartHasCause : Result Part ReadAnswer → ℕ → ℕ → Type 0
+PartHasCause (Ok part) before now = now ≡ before
+PartHasCause (Err ReadFault) before now = Rose before now
+PartHasCause (Err TooLong) before now = now ≡ before
+PartHasCause (Err (NoEnd line)) before now = now ≡ before
+PartHasCause (Err Memory) before now = now ≡ before

@@ -1,5 +1,5 @@
 -- What a call on an object of the outside leaves of its count of faults and of the bytes that it tells.
-use Rattle.std.specs.Prelude.{◌≡◌, ◌≢◌, ℕ, ◌+◌, ◌-◌, ◌^◌, ◌≤◌, min, List, [], ◌++◌, OnErr, Option, Some, None, Result}
+use Rattle.std.specs.Prelude.{◌≡◌, ◌≢◌, ℕ, ◌+◌, ◌-◌, ◌^◌, ◌≤◌, min, List, [], ◌++◌, IfOk, OnErr, Option, Some, None, Result}
 
 -- the number after n in a count of 64 bits, which stays at its last value
 abbrev pub next_count : ℕ → ℕ
@@ -9,9 +9,18 @@ next_count n = min (n + 1) (2 ^ 64 - 1)
 abbrev pub Rose : ℕ → ℕ → Type 0
 Rose before now = next_count before ≤ now
 
--- The count doesn't fall, and an error is answered only where it rose.
+-- The count doesn't fall: it stays where the answer is Ok, and rises where it is an error.
 pub record HasCause {T E : Type 0} (before now : ℕ) (result : Result T E) : Type 0 where
   pub later : before ≤ now
+  pub stayed : IfOk result (λ _. now ≡ before)
+  pub failed : OnErr result (Rose before now)
+
+-- The count doesn't fall: it stays where some of the piece was put, or it is empty, and rises where nothing of a piece
+-- that isn't empty was put, or the answer is an error.
+pub record PutHasCause {E : Type 0} (piece : List ℕ) (before now : ℕ) (result : Result ℕ E) : Type 0 where
+  pub later : before ≤ now
+  pub stayed : IfOk result (λ n. (n ≡ 0 → piece ≡ []) → now ≡ before)
+  pub nothing : IfOk result (λ n. n ≡ 0 → piece ≢ [] → Rose before now)
   pub failed : OnErr result (Rose before now)
 
 -- Where an object tells after a call, it told before it, and what it told before and after has P.

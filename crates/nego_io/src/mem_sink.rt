@@ -1,6 +1,6 @@
-ghost use Rattle.std.specs.Prelude.{◌≡◌, ℕ, ◌<◌, ◌≤◌, ◌+◌, ◌-◌, ◌^◌, ◌↔◌, ◌⊎◌, not, ◌&&◌, if◌then◌else◌, is_err, IsErr, IsTrue, IfOk, OnErr, IsOkAnd, [], length, take, Some};
+ghost use Rattle.std.specs.Prelude.{◌≡◌, ℕ, ◌≤◌, ◌+◌, ◌-◌, ◌^◌, ◌↔◌, ◌⊎◌, not, ◌&&◌, if◌then◌else◌, is_err, IsErr, IsTrue, IfOk, OnErr, IsOkAnd, [], length, take, Some};
 ghost use Rattle.nego_base.specs.Members.{is_in};
-ghost use Rattle.nego_io.specs.Outside.{HasCause, Rose, Puts, next_count};
+ghost use Rattle.nego_io.specs.Outside.{PutHasCause, Puts, next_count};
 ghost use Rattle.nego_io.specs.Calls.{after_call, no_calls};
 
 use crate::calls::Calls;
@@ -61,9 +61,8 @@ impl Sink for MemSink {
     fn put(&mut self, piece: &[u8]) -> Result<usize, Failed>
         ensures count { IfOk result (λ n. n ≤ length piece.now) }
         ensures taken { IfOk result (λ n. Puts (take n piece.now) (Some self.old.taken) (Some self.new.taken)) }
-        ensures nothing { IfOk result (λ n. n ≡ 0 → 0 < length piece.now → Rose self.old.calls.failed self.new.calls.failed) }
         ensures err { OnErr result (Puts [] (Some self.old.taken) (Some self.new.taken)) }
-        ensures cause { HasCause self.old.calls.failed self.new.calls.failed result }
+        ensures cause { PutHasCause piece.now self.old.calls.failed self.new.calls.failed result }
 
         // It fails exactly where its number is listed or it found no memory, and does nothing else then.
         ensures listed { IsTrue (is_in self.old.calls.made self.old.calls.listed) → IsErr result }

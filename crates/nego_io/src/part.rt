@@ -1,7 +1,7 @@
-ghost use Rattle.std.specs.Prelude.{◌≡◌, ℕ, ◌-◌, ◌^◌, ◌<◌, ◌≤◌, List, [], Option, None, IfOk, IfErr, OnErr, option_to_list, length};
+ghost use Rattle.std.specs.Prelude.{◌≡◌, ℕ, ◌-◌, ◌^◌, ◌<◌, ◌≤◌, List, [], Option, None, IfOk, OnErr, option_to_list, length};
 ghost use Rattle.nego_io.specs.Outside.{HasCause, WhereTold, Takes};
 ghost use Rattle.nego_io.specs.Part.{reading, Whole};
-ghost use Rattle.nego_io.specs.Answer.{Answers, FaultHasCause};
+ghost use Rattle.nego_io.specs.Answer.{Answers, PartHasCause};
 ghost use Rattle.nego_io.specs.declared.part.ReadAnswer.TheVariants.{ReadFault, Memory as Starved};
 
 use crate::front::Front;
@@ -72,7 +72,7 @@ pub fn read_part<S: Source>(alloc: Global, source: &mut S, limit: u32) -> Result
     // Whether it tells or not, the bytes are a part and no more.
     ensures whole { IfOk result (λ part. reading limit part.bytes ≡ Whole part.bytes []) }
     ensures fits { IfOk result (λ part. length part.bytes ≤ limit) }
-    ensures fault { IfErr result (λ e. FaultHasCause e (S.faults source.old) (S.faults source.new)) }
+    ensures cause { PartHasCause result (S.faults source.old) (S.faults source.new) }
     ensures later { S.faults source.old ≤ S.faults source.new }
 {
     let mut front = Front::new(alloc);

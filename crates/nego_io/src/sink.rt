@@ -1,5 +1,5 @@
-ghost use Rattle.std.specs.Prelude.{◌≡◌, ℕ, ◌<◌, ◌≤◌, List, [], length, take, Option, IfOk, OnErr};
-ghost use Rattle.nego_io.specs.Outside.{HasCause, Rose, Puts};
+ghost use Rattle.std.specs.Prelude.{◌≡◌, ℕ, ◌≤◌, List, [], length, take, Option, IfOk, OnErr};
+ghost use Rattle.nego_io.specs.Outside.{PutHasCause, Puts};
 
 use crate::Failed;
 
@@ -12,11 +12,10 @@ pub trait Sink {
     ghost faults: { Self → ℕ };
 
     /// Puts the first bytes of the piece behind what was taken, and answers how many.
-    /// For a piece that isn't empty, 0 counts as a fault.
+    /// For a piece that isn't empty, 0 counts as a fault. Nothing else but a failure moves the count.
     fn put(&mut self, piece: &[u8]) -> Result<usize, Failed>
         ensures count { IfOk result (λ n. n ≤ length piece.now) }
         ensures taken { IfOk result (λ n. Puts (take n piece.now) (taken self.old) (taken self.new)) }
-        ensures nothing { IfOk result (λ n. n ≡ 0 → 0 < length piece.now → Rose (faults self.old) (faults self.new)) }
         ensures err { OnErr result (Puts [] (taken self.old) (taken self.new)) }
-        ensures cause { HasCause (faults self.old) (faults self.new) result };
+        ensures cause { PutHasCause piece.now (faults self.old) (faults self.new) result };
 }

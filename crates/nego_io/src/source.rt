@@ -12,7 +12,7 @@ pub trait Source {
     ghost faults: { Self → ℕ };
 
     /// Moves the first bytes of what is left into the front of the buffer, and answers how many.
-    /// For a buffer that isn't empty that is 0 exactly at the end of input.
+    /// For a buffer that isn't empty that is 0 exactly at the end of input. Nothing but a failure moves the count.
     fn take(&mut self, buf: &mut [u8]) -> Result<usize, Failed>
         ensures count { IfOk result (λ n. n ≤ length buf.new) }
         ensures taken { IfOk result (λ n. Takes (take n buf.new) (left self.old) (left self.new)) }

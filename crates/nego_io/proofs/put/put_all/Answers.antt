@@ -1,4 +1,4 @@
-use Rattle.std.proofs.Common.{length, ap, arith}
+use Rattle.std.proofs.Common.{length, ap, ◌∙◌, arith}
 use Rattle.nego_io.proofs.OutsideLaws.{put_front, put_more}
 use Rattle.nego_io.proofs.put.put_all.Goals as goal
 
@@ -15,7 +15,7 @@ loop-done-preserved g c =
     record {
       within = omega (arith, c.in-Ok.ensures.count);
       told = put_more c.args.bytes.now c.loop-done.done c.in-Ok.n (taken c.args.sink.now) (taken c.loop-done.sink) (taken c.put.new.self) before.told c.in-Ok.ensures.taken;
-      later = omega (arith, before.later, c.in-Ok.ensures.cause.later);
+      stayed = c.in-Ok.ensures.cause.stayed (λ none. absurd (c.in-Ok.n-test.1 none)) ∙ before.stayed;
       nothing = λ none. absurd (omega (arith, ap length none, c.loop-done-test.true));
     }
 

@@ -6,7 +6,7 @@ abbrev pub invariant-loop-done : goal.invariant-loop-done
 invariant-loop-done g l = record {
   within : l.done ≤ length l.bytes;
   told : Puts (take l.done l.bytes) (g.O.Sink.taken l.initial.sink) (g.O.Sink.taken l.sink);
-  later : g.O.Sink.faults l.initial.sink ≤ g.O.Sink.faults l.sink;
+  stayed : g.O.Sink.faults l.sink ≡ g.O.Sink.faults l.initial.sink;
   nothing : l.bytes ≡ [] → l.sink ≡ l.initial.sink;
 }
 
