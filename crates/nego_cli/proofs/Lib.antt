@@ -3,10 +3,6 @@ pub mod FirstWord
 pub mod SplitLaws
 pub mod NumberWords
 pub mod WordLaws
-pub mod Found
-pub mod Said
-pub mod RefusedOnce
-pub mod LinesShown
 pub mod NarrowWorks
 pub mod NarrowOrder
 pub mod NarrowUses
@@ -15,7 +11,6 @@ pub mod NarrowFresh
 pub mod LeastMerge
 pub mod CertificateLines
 pub mod OnlyMemory
-pub mod Told
 pub mod NarrowTests
 pub mod FormAtoms
 pub mod NamedPlaces

@@ -1,5 +1,5 @@
--- Why an input is refused, and the lines that say so. Every line ends with a newline.
-use Rattle.std.specs.Prelude.{ℕ, List, [], ◌∷◌, ◌++◌, codes, decimal}
+-- The lines that say why an input is refused. Every line ends with a newline.
+use Rattle.std.specs.Prelude.{ℕ, ◌<◌, ⊤, List, [], ◌∷◌, ◌++◌, length, codes, decimal}
 use Rattle.nego_base.specs.declared.fault.FaultKind.{FaultKind}
 use Rattle.nego_base.specs.declared.fault.FaultKind.TheVariants as kinds
 use Rattle.nego_base.specs.declared.fault.Fault.{Fault}
@@ -11,22 +11,16 @@ use Rattle.nego_shape.specs.declared.fault.Many.{Many}
 use Rattle.nego_shape.specs.declared.fault.Many.TheVariants as many
 use Rattle.nego_shape.specs.declared.fault.ShapeKind.{ShapeKind}
 use Rattle.nego_shape.specs.declared.fault.ShapeKind.TheVariants as shapes
-use Rattle.nego_shape.specs.declared.fault.ShapeFault.{ShapeFault}
+use Rattle.nego_shape.specs.Answer.{AreJointIn}
 use Rattle.nego_shape.specs.Naming.{diagram_in}
+use Rattle.nego_cli.specs.declared.failure.PartName.{PartName}
+use Rattle.nego_cli.specs.declared.failure.PartName.TheVariants as parts
+use Rattle.nego_cli.specs.declared.failure.Refusal.{Refusal}
+use Rattle.nego_cli.specs.declared.failure.Refusal.TheVariants as refusals
 
 -- the diagram that the value of a text is
 abbrev pub diagram_of : Parsed → PlainDiagram
 diagram_of p = diagram_in (content_of p)
-
--- Why: the part is too long, or has no end; the text is off its grammar; its value has a fault of shape; its diagram
--- isn't deterministic, at this outcome and agent; or isn't of a form that is taken yet.
-pub data Why : Type 0 where
-  TooLong : Why
-  NoEnd : ℕ → Why
-  Off : Fault → Why
-  Misshapen : Parsed → ShapeFault → Why
-  Undetermined : PlainDiagram → ℕ → ℕ → Why
-  NotYet : Why
 
 -- the name of the kind of a fault
 abbrev pub kind_name : FaultKind → List ℕ
@@ -79,13 +73,33 @@ shape_words d (shapes.JointTooLarge a) rest = codes "JointTooLarge " ++ (agent_n
 shape_words d (shapes.ValueTooLarge o a) rest = codes "ValueTooLarge " ++ choice_words d o.0 a.0 rest
 shape_words d (shapes.NotTotal o e) rest = codes "NotTotal " ++ outcome_words d o.0 (value_words (split d.sizes e) rest)
 
+-- the name of a part of an input
+abbrev pub part_name : PartName → List ℕ
+part_name parts.Diagram = codes "diagram"
+
+-- a part of an input and a line of it
+abbrev pub place_words : PartName → ℕ → List ℕ → List ℕ
+place_words part line rest = part_name part ++ (codes " line " ++ (decimal line ++ (codes " " ++ rest)))
+
+-- the place and the kind of a fault of grammar
+abbrev pub fault_words : PartName → Fault → List ℕ → List ℕ
+fault_words part fault rest = place_words part fault.line (codes "column " ++ (decimal fault.column ++ (codes " " ++ (kind_name fault.kind ++ rest))))
+
+-- what is refused, and why
+abbrev pub refusal_words : Refusal → List ℕ → List ℕ
+refusal_words (refusals.TooLong part) rest = part_name part ++ (codes " TooLong" ++ rest)
+refusal_words (refusals.NoEnd part line) rest = place_words part line (codes "NoEnd" ++ rest)
+refusal_words (refusals.Off part fault) rest = fault_words part fault rest
+refusal_words (refusals.Misshapen p fault) rest = place_words parts.Diagram fault.line (shape_words (diagram_of p) fault.kind rest)
+refusal_words (refusals.Undetermined d o a) rest = codes "NotDeterministic " ++ choice_words d o.0 a.0 rest
+refusal_words refusals.NotYet rest = codes "diagram not yet" ++ rest
+
 -- the line of a refusal
-abbrev pub refusal_line : Why → List ℕ
-refusal_line TooLong = codes "refused diagram TooLong\n"
-refusal_line (NoEnd line) = codes "refused diagram line " ++ (decimal line ++ codes " NoEnd\n")
-refusal_line (Off fault) =
-    codes "refused diagram line " ++ (decimal fault.line ++ (codes " column " ++ (decimal fault.column ++ (codes " " ++ (kind_name fault.kind ++ codes "\n")))))
-refusal_line (Misshapen p fault) =
-    codes "refused diagram line " ++ (decimal fault.line ++ (codes " " ++ shape_words (diagram_of p) fault.kind (codes "\n")))
-refusal_line (Undetermined d o a) = codes "refused NotDeterministic " ++ choice_words d o a (codes "\n")
-refusal_line NotYet = codes "refused diagram not yet\n"
+abbrev pub refusal_line : Refusal → List ℕ
+refusal_line why = codes "refused " ++ refusal_words why (codes "\n")
+
+-- What the refusal names is there: joint data of the text's sizes, or an outcome and an agent of the diagram.
+abbrev pub IsNamed : Refusal → Type 0
+IsNamed (refusals.Misshapen p fault) = AreJointIn p fault.kind
+IsNamed (refusals.Undetermined d o a) = (o.0 < length d.outcomes) × (a.0 < length d.agents)
+IsNamed _ = ⊤

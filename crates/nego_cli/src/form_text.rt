@@ -4,11 +4,11 @@ ghost use Rattle.std.specs.Prelude.{◌<◌, ◌++◌, codes, length, IfOk, OnOk
 ghost use Rattle.nego_data.specs.Data.{data_count};
 ghost use Rattle.nego_model.specs.Diagram.{IsDiagram, atom_name};
 ghost use Rattle.nego_expr.specs.SummaryText.{Appends};
-ghost use Rattle.nego_cli.specs.Answer.{IsFormOf};
+ghost use Rattle.nego_cli.specs.Check.{IsFormOf};
 ghost use Rattle.nego_model.specs.Undetermined.{IsFirstUndetermined};
 ghost use Rattle.nego_cli.specs.FormText.{count_line, choice_line, atom_words, order_line, choice_numbers, AreAtoms};
 
-use crate::text::add_choice;
+use crate::names::add_choice;
 use nego_base::{AgentId, AtomId, Memory, OutcomeId, Text};
 use nego_model::Diagram;
 use nego_shape::{Order, determined, order};

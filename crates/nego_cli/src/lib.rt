@@ -3,29 +3,24 @@
 
 mod answer;
 mod certificate;
+mod check;
 mod command;
 mod deliver;
-#[cfg(test)]
-mod form_tests;
+mod dispatch;
+mod failure;
 mod form_text;
+mod load;
+mod names;
 mod narrow;
 mod order;
-#[cfg(test)]
-mod run_tests;
-#[cfg(test)]
-mod shape_tests;
+mod reduce;
+mod refusal_text;
 mod shape_text;
 mod splitting;
 mod status;
-mod telling;
-#[cfg(test)]
-mod tests;
-mod text;
 mod top;
 mod word_laws;
 mod words;
-#[cfg(test)]
-mod words_tests;
 
 pub use command::{Command, WordsAnswer};
 pub use status::Status;

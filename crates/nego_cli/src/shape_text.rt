@@ -1,4 +1,4 @@
-//! The line of the refusal of a text whose value has a fault of shape.
+//! The words of a fault of shape.
 
 ghost use Rattle.std.specs.Prelude.{◌≡◌, ◌++◌, ◌<◌, codes, decimal, Some, None, IfOk, OnOk};
 ghost use Rattle.nego_data.specs.Data.{data_count, split};
@@ -8,29 +8,20 @@ ghost use Rattle.nego_reader.specs.Content.{content_of};
 ghost use Rattle.nego_shape.specs.Answer.{AreJointIn};
 ghost use Rattle.nego_shape.specs.Naming.{sizes_in};
 ghost use Rattle.nego_expr.specs.SummaryText.{Appends};
-ghost use Rattle.nego_cli.specs.Refusals.{diagram_of, many_name, outcome_words, choice_words, value_words, shape_words, refusal_line, Misshapen};
+ghost use Rattle.nego_cli.specs.Refusals.{diagram_of, many_name, outcome_words, choice_words, value_words, shape_words};
 
 use nego_base::{AgentId, Memory, OutcomeId, Text};
 use nego_reader::Parsed;
-use nego_shape::{Many, ShapeFault, ShapeKind, sizes_of};
+use nego_shape::{Many, ShapeKind, sizes_of};
 use std::alloc::Global;
 
-/// The line of the refusal of a text whose value has this fault of shape.
-pub(crate) fn misshapen(alloc: Global, p: &Parsed, fault: &ShapeFault) -> Result<Text, Memory>
-    requires { AreJointIn p.now fault.now.kind }
-    ensures { IfOk result (λ line. line ≡ refusal_line (Misshapen p.now fault.now)) }
-{
-    let line = fault.line.to_string(alloc)?;
-    let mut text = Text::copy(alloc, b"refused diagram line ")?;
-    text.extend_from_slice(line.as_bytes())?;
-    text.extend_from_slice(b" ")?;
-    add_kind(alloc, &mut text, p, &fault.kind)?;
-    text.extend_from_slice(b"\n")?;
-    Ok(text)
-}
-
 /// Adds the kind of a fault, and its arguments.
-fn add_kind(alloc: Global, text: &mut Text, p: &Parsed, kind: &ShapeKind) -> Result<(), Memory>
+pub(crate) fn add_kind(
+    alloc: Global,
+    text: &mut Text,
+    p: &Parsed,
+    kind: &ShapeKind,
+) -> Result<(), Memory>
     requires { AreJointIn p.now kind.now }
     ensures { OnOk result (Appends text.old text.new (shape_words (diagram_of p.now) kind.now)) }
 {

@@ -1,22 +1,22 @@
 //! The top call.
 
 ghost use Rattle.std.specs.Prelude.{◌≡◌, ◌⊎◌, ℕ, ◌≤◌, List, None};
-ghost use Rattle.nego_io.specs.Outside.{Rose, WhereTold};
-ghost use Rattle.nego_cli.specs.Answer.{Reply, Refuses, Causes, Failed, Shows, Says, IsFault, IsTextOf, Put, change, job_asked, status_of};
-ghost use Rattle.nego_cli.specs.Refusals.{Why, refusal_line};
-ghost use Rattle.nego_cli.specs.Texts.{usage_line};
+ghost use Rattle.nego_io.specs.Outside.{WhereTold};
+ghost use Rattle.nego_cli.specs.Change.{Failed, change};
+ghost use Rattle.nego_cli.specs.Parts.{reads_at};
+ghost use Rattle.nego_cli.specs.Turn.{Tells, Refuses};
+ghost use Rattle.nego_cli.specs.Commands.{TurnOf, asked, Asks, most_parts};
+ghost use Rattle.nego_cli.specs.Answer.{Says, ShowsLine, ShowsText, FailsToRead};
 
-use crate::Status;
-use crate::answer::find_answer;
 use crate::deliver::deliver;
+use crate::dispatch::find_answer;
+use crate::failure::{Failure, Refusal};
+use crate::{Command, Status};
 use nego_base::Text;
 use nego_io::{Sink, Source};
 use std::alloc::Global;
 
-/// How many bytes a part of an input may have.
-pub const PART_LIMIT: u32 = 262_144;
-
-/// Does what the words say: takes a diagram from the source, and puts the answer on `out` or a line on `err`.
+/// Does what the words say: takes its parts from the source, and puts a text on `out` or a line on `err`.
 pub fn nego<S: Source, O: Sink, E: Sink>(
     alloc: Global,
     words: &[Text],
@@ -27,28 +27,21 @@ pub fn nego<S: Source, O: Sink, E: Sink>(
     // What was put on `out` and `err`, what is left of the source, and why.
     ensures says { Says words.now (change S.left S.faults source.old source.new) (change O.taken O.faults out.old out.new) (change E.taken E.faults err.old err.new) result }
 
-    // Where the words and the input are the cause of a reply, its status is answered, or a fault, or want of memory.
-    ensures words_exactly { job_asked words.now ≡ None → (result ≡ Status.Words) ⊎ IsFault result }
-    ensures exactly { WhereTold (S.left source.old) (S.left source.new) (λ input _. (reply : Reply) → Causes words.now input reply → (result ≡ status_of reply) ⊎ IsFault result) }
+    // Where the words are no command that is built, the usage line is shown.
+    ensures usage { asked words.now ≡ None → ShowsLine Failure.Words (change O.taken O.faults out.old out.new) (change E.taken E.faults err.old err.new) result }
 
-    // Where the words and the input are the cause of a reply that is a text for `out`, and no count rose, the answer is
-    // this text, or want of memory.
-    ensures complete { WhereTold (S.left source.old) (S.left source.new) (λ input _. (reply : Reply) → Causes words.now input reply → status_of reply ≡ Status.Done →
-        ¬ Failed (change S.left S.faults source.old source.new) → ¬ Failed (change O.taken O.faults out.old out.new) → ¬ Failed (change E.taken E.faults err.old err.new) →
-        ((result ≡ Status.Done) × ((text : List ℕ) × IsTextOf reply text × Put text (change O.taken O.faults out.old out.new))) ⊎ (result ≡ Status.Memory)) }
+    // Where the command that they are refuses what the input begins with, the refusal's line is shown, or a call of the
+    // source failed.
+    ensures refusal { WhereTold (S.left source.old) (S.left source.new) (λ input _. (command : Command) (n : ℕ) (why : Refusal) → Asks words.now command → TurnOf command (reads_at n input) (Refuses why) →
+        ShowsLine (Failure.Refused why) (change O.taken O.faults out.old out.new) (change E.taken E.faults err.old err.new) result ⊎ FailsToRead (change S.left S.faults source.old source.new) result) }
 
-    // Where the words are no command that is built, and the count of `err` didn't rise, the usage line is there, or memory
-    // was wanted. Where the words and the input are the cause of a refusal, and the counts of the source and of `err`
-    // didn't rise, the refusal's line is there, or memory was wanted.
-    ensures usage { job_asked words.now ≡ None → ¬ Failed (change E.taken E.faults err.old err.new) →
-        Shows Status.Words usage_line (change O.taken O.faults out.old out.new) (change E.taken E.faults err.old err.new) result }
-    ensures refusals { WhereTold (S.left source.old) (S.left source.new) (λ input _. (why : Why) → Causes words.now input (Refuses why) →
-        ¬ Failed (change S.left S.faults source.old source.new) → ¬ Failed (change E.taken E.faults err.old err.new) →
-        Shows Status.Refused (refusal_line why) (change O.taken O.faults out.old out.new) (change E.taken E.faults err.old err.new) result) }
+    // Where it takes what the input begins with, its text is shown, or a call of the source failed.
+    ensures text { WhereTold (S.left source.old) (S.left source.new) (λ input _. (command : Command) (n : ℕ) → Asks words.now command → TurnOf command (reads_at n input) Tells →
+        ShowsText command (reads_at n input) (change O.taken O.faults out.old out.new) (change E.taken E.faults err.old err.new) result ⊎ FailsToRead (change S.left S.faults source.old source.new) result) }
 
-    // What has no part in the answer stays as it is, whether it tells or not: the source where the words are no command
-    // that is built, `out` where no text is put there, and `err` where the text is on `out`.
-    ensures source_untouched { job_asked words.now ≡ None → source.new ≡ source.old }
+    // What has no part in the answer stays as it is, whether it tells or not: the source where the command that is asked
+    // for reads no part, `out` where no text is put there, and `err` where the text is on `out`.
+    ensures source_untouched { most_parts (asked words.now) ≡ 0 → source.new ≡ source.old }
     ensures out_untouched { (result ≡ Status.Done)
         ⊎ (((result ≡ Status.WriteFault) × Failed (change O.taken O.faults out.old out.new)) ⊎ (out.new ≡ out.old)) }
     ensures err_untouched { result ≡ Status.Done → err.new ≡ err.old }
@@ -59,5 +52,5 @@ pub fn nego<S: Source, O: Sink, E: Sink>(
     ensures err_faults { E.faults err.old ≤ E.faults err.new }
 {
     let answer = find_answer(alloc, words, source);
-    deliver(&answer, out, err)
+    deliver(alloc, &answer, out, err)
 }

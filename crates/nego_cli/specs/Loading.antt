@@ -1,0 +1,80 @@
+-- Diagrams that are read of an input.
+use Rattle.std.specs.Prelude.{◌≡◌, ⊤, ℕ, List, [], ◌∷◌, Some, None}
+use Rattle.nego_model.specs.Diagram.{PlainDiagram, IsDiagram}
+use Rattle.nego_reader.specs.declared.parsed.Parsed.{Parsed}
+use Rattle.nego_reader.specs.Spelling.{Spells}
+use Rattle.nego_reader.specs.Reading.{diagram_fault}
+use Rattle.nego_shape.specs.Faults.{shape_fault}
+use Rattle.nego_cli.specs.declared.failure.PartName.{PartName}
+use Rattle.nego_cli.specs.declared.failure.PartName.TheVariants.{Diagram}
+use Rattle.nego_cli.specs.declared.failure.Refusal.{Refusal}
+use Rattle.nego_cli.specs.declared.failure.Refusal.TheVariants.{TooLong, NoEnd, Off, Misshapen}
+use Rattle.nego_cli.specs.declared.failure.Failure.{Failure}
+use Rattle.nego_cli.specs.declared.failure.Failure.TheVariants as failures
+use Rattle.nego_cli.specs.Change.{Change, Failed, Stayed}
+use Rattle.nego_cli.specs.Parts.{Read, ReadPart, ReadTooLong, ReadNoEnd, HasRead, TookParts}
+use Rattle.nego_cli.specs.Refusals.{diagram_of}
+
+-- The text spells a value without a fault of shape, and this is its diagram.
+pub record SpellsDiagram (text : List ℕ) (d : PlainDiagram) : Type 0 where
+  pub value : Parsed
+  pub spelled : Spells text value
+  pub shaped : shape_fault value ≡ None
+  pub is : d ≡ diagram_of value
+
+-- The text has no diagram: it is off its grammar, first at this fault, or the value that it spells has a fault of shape,
+-- of which this is the first.
+abbrev pub HasNoDiagram : List ℕ → Refusal → Type 0
+HasNoDiagram text (Off part fault) = (part ≡ Diagram) × (diagram_fault text ≡ Some fault) × ((p : Parsed) → ¬ Spells text p)
+HasNoDiagram text (Misshapen p fault) = Spells text p × (shape_fault p ≡ Some fault)
+HasNoDiagram text _ = ⊥
+
+-- What was read where a diagram was wanted is none, for this reason.
+abbrev pub IsNoDiagram : Read → Refusal → Type 0
+IsNoDiagram (ReadPart text) why = HasNoDiagram text why
+IsNoDiagram ReadTooLong why = why ≡ TooLong Diagram
+IsNoDiagram (ReadNoEnd line) why = why ≡ NoEnd Diagram line
+
+-- The diagram was read, and is one.
+pub record HasLoaded (source : Change) (d : PlainDiagram) : Type 0 where
+  pub text : List ℕ
+  pub read : HasRead (ReadPart text ∷ []) source
+  pub spelled : SpellsDiagram text d
+  pub diagram : IsDiagram d
+
+-- Why no diagram was read: what was read is none, a call of the source failed, or memory was wanted.
+abbrev pub HasNotLoaded : Change → Failure → Type 0
+HasNotLoaded source (failures.Refused why) = (read : Read) × HasRead (read ∷ []) source × IsNoDiagram read why
+HasNotLoaded source failures.ReadFault = Failed source × TookParts 1 source
+HasNotLoaded source failures.Memory = Stayed source × TookParts 1 source
+HasNotLoaded source failures.Words = ⊥
+
+-- Why no part of this name was read: it is too long, or has no end, a call of the source failed, or memory was wanted.
+abbrev pub HasNoPart : PartName → Change → Failure → Type 0
+HasNoPart part source (failures.Refused (TooLong named)) = (named ≡ part) × HasRead (ReadTooLong ∷ []) source
+HasNoPart part source (failures.Refused (NoEnd named line)) = (named ≡ part) × HasRead (ReadNoEnd line ∷ []) source
+HasNoPart part source (failures.Refused _) = ⊥
+HasNoPart part source failures.ReadFault = Failed source × TookParts 1 source
+HasNoPart part source failures.Memory = Stayed source × TookParts 1 source
+HasNoPart part source failures.Words = ⊥
+
+-- The text spells this diagram, which is one.
+abbrev pub IsDiagramOf : List ℕ → PlainDiagram → Type 0
+IsDiagramOf text d = SpellsDiagram text d × IsDiagram d
+
+-- Why there is no diagram of the text: it has none, or memory was wanted.
+abbrev pub IsUnspelled : List ℕ → Failure → Type 0
+IsUnspelled text (failures.Refused why) = HasNoDiagram text why
+IsUnspelled text failures.Memory = ⊤
+IsUnspelled text _ = ⊥
+
+-- The value has no fault of shape, and this is its diagram, which is one.
+abbrev pub IsShapeOf : Parsed → PlainDiagram → Type 0
+IsShapeOf p d = (shape_fault p ≡ None) × (d ≡ diagram_of p) × IsDiagram d
+
+-- Why there is no diagram of the value: it has this first fault of shape, or memory was wanted.
+abbrev pub HasNoShape : Parsed → Failure → Type 0
+HasNoShape p (failures.Refused (Misshapen q fault)) = (q ≡ p) × (shape_fault p ≡ Some fault)
+HasNoShape p (failures.Refused _) = ⊥
+HasNoShape p failures.Memory = ⊤
+HasNoShape p _ = ⊥

@@ -1,0 +1,51 @@
+//! Finds the answer of a command, which is still to be written.
+
+ghost use Rattle.std.specs.Prelude.{◌≡◌, ◌≤◌, None, Some};
+ghost use Rattle.nego_cli.specs.Change.{change};
+ghost use Rattle.nego_cli.specs.Commands.{parts_of, asked, most_parts};
+ghost use Rattle.nego_cli.specs.Answer.{IsFound};
+ghost use Rattle.nego_cli.specs.Dispatch.{IsAnswer};
+
+use crate::answer::Answer;
+use crate::check::check;
+use crate::failure::Failure;
+use crate::load::load;
+use crate::reduce::reduce;
+use crate::{Command, WordsAnswer, words_of};
+use nego_base::Text;
+use nego_io::Source;
+use std::alloc::Global;
+
+/// The answer of the command: one arm for each that is built.
+fn answer<S: Source>(
+    alloc: Global,
+    command: &Command,
+    source: &mut S,
+) -> Result<Answer, Failure>
+    ensures found { IsAnswer command.now (change S.left S.faults source.old source.new) result }
+    ensures untouched { most_parts (Some command.now) ≡ 0 → source.new ≡ source.old }
+    ensures later { S.faults source.old ≤ S.faults source.new }
+{
+    match command {
+        Command::Check => check(alloc, &load(alloc, source)?),
+        Command::Reduce => reduce(alloc, load(alloc, source)?),
+        _ => Err(Failure::Words),
+    }
+}
+
+/// Finds the answer to the words.
+pub(crate) fn find_answer<S: Source>(
+    alloc: Global,
+    words: &[Text],
+    source: &mut S,
+) -> Result<Answer, Failure>
+    ensures found { IsFound words.now (change S.left S.faults source.old source.new) result }
+    ensures untouched { most_parts (asked words.now) ≡ 0 → source.new ≡ source.old }
+    ensures later { S.faults source.old ≤ S.faults source.new }
+{
+    match words_of(alloc, words) {
+        Ok(command) => answer(alloc, &command, source),
+        Err(WordsAnswer::Words) => Err(Failure::Words),
+        Err(WordsAnswer::Memory) => Err(Failure::Memory),
+    }
+}

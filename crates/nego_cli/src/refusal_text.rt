@@ -1,0 +1,99 @@
+//! The line that says why an input is refused, which is built before it is written.
+
+ghost use Rattle.std.specs.Prelude.{◌≡◌, IfOk, OnOk};
+ghost use Rattle.nego_expr.specs.SummaryText.{Appends};
+ghost use Rattle.nego_cli.specs.Refusals.{IsNamed, fault_words, kind_name, part_name, place_words, refusal_words, refusal_line};
+
+use crate::failure::{PartName, Refusal};
+use crate::names::add_choice;
+use crate::shape_text::add_kind;
+use nego_base::{Fault, FaultKind, Memory, Text};
+use std::alloc::Global;
+
+/// The line of the refusal.
+pub(crate) fn refusal_line(alloc: Global, why: &Refusal) -> Result<Text, Memory>
+    requires { IsNamed why.now }
+    ensures { IfOk result (λ line. line ≡ refusal_line why.now) }
+{
+    let mut text = Text::copy(alloc, b"refused ")?;
+    add_refusal(alloc, &mut text, why)?;
+    text.extend_from_slice(b"\n")?;
+    Ok(text)
+}
+
+/// Adds what is refused, and why.
+fn add_refusal(alloc: Global, text: &mut Text, why: &Refusal) -> Result<(), Memory>
+    requires { IsNamed why.now }
+    ensures { OnOk result (Appends text.old text.new (refusal_words why.now)) }
+{
+    match why {
+        Refusal::TooLong(part) => {
+            text.extend_from_slice(part_name(*part))?;
+            text.extend_from_slice(b" TooLong")
+        }
+        Refusal::NoEnd(part, line) => {
+            add_place(alloc, text, *part, *line)?;
+            text.extend_from_slice(b"NoEnd")
+        }
+        Refusal::Off(part, fault) => add_fault(alloc, text, *part, *fault),
+        Refusal::Misshapen(p, fault) => {
+            add_place(alloc, text, PartName::Diagram, fault.line)?;
+            add_kind(alloc, text, p, &fault.kind)
+        }
+        Refusal::Undetermined(d, o, a) => {
+            text.extend_from_slice(b"NotDeterministic ")?;
+            add_choice(text, d, *o, *a)
+        }
+        Refusal::NotYet => text.extend_from_slice(b"diagram not yet"),
+    }
+}
+
+/// Adds the name of a part and the number of a line.
+fn add_place(alloc: Global, text: &mut Text, part: PartName, line: u32) -> Result<(), Memory>
+    ensures { OnOk result (Appends text.old text.new (place_words part line)) }
+{
+    let digits = line.to_string(alloc)?;
+    text.extend_from_slice(part_name(part))?;
+    text.extend_from_slice(b" line ")?;
+    text.extend_from_slice(digits.as_bytes())?;
+    text.extend_from_slice(b" ")
+}
+
+/// Adds the place and the kind of a fault of grammar.
+fn add_fault(alloc: Global, text: &mut Text, part: PartName, fault: Fault) -> Result<(), Memory>
+    ensures { OnOk result (Appends text.old text.new (fault_words part fault)) }
+{
+    let column = fault.column.to_string(alloc)?;
+    add_place(alloc, text, part, fault.line)?;
+    text.extend_from_slice(b"column ")?;
+    text.extend_from_slice(column.as_bytes())?;
+    text.extend_from_slice(b" ")?;
+    text.extend_from_slice(kind_name(fault.kind))
+}
+
+/// The name of the part.
+fn part_name(part: PartName) -> &'static [u8]
+    ensures { result.now ≡ part_name part }
+{
+    match part {
+        PartName::Diagram => b"diagram",
+    }
+}
+
+/// The name of the kind.
+fn kind_name(kind: FaultKind) -> &'static [u8]
+    ensures { result.now ≡ kind_name kind }
+{
+    match kind {
+        FaultKind::Line => b"Line",
+        FaultKind::Byte => b"Byte",
+        FaultKind::Version => b"Version",
+        FaultKind::Word => b"Word",
+        FaultKind::Count => b"Count",
+        FaultKind::Name => b"Name",
+        FaultKind::Number => b"Number",
+        FaultKind::Case => b"Case",
+        FaultKind::Agent => b"Agent",
+        FaultKind::Many => b"Many",
+    }
+}
