@@ -14,3 +14,7 @@ pub mod OnlyMemory
 pub mod NarrowTests
 pub mod FormAtoms
 pub mod NamedPlaces
+pub mod Loaded
+pub mod Turns
+pub mod Found
+pub mod Ends

@@ -1,5 +1,5 @@
 -- Names by number in the value of a text, and words that are appended to a text one by one.
-use Rattle.std.proofs.Common.{◌≡◌, ◌∙◌, ℕ, zero, suc, ◌+◌, ◌-◌, ◌<◌, ◌≤◌, List, [], ◌∷◌, ◌++◌, length, map, drop, get_or, slice_get, unwrap_or, Some, None, ap, sym, refl, arith, add-one, ◌%◌, take, replicate}
+use Rattle.std.proofs.Common.{◌≡◌, ◌∙◌, ℕ, zero, suc, ◌+◌, ◌-◌, ◌<◌, ◌≤◌, List, [], ◌∷◌, ◌++◌, length, map, drop, get_or, slice_get, unwrap_or, Some, None, ap, sym, refl, append_assoc, arith, add-one, ◌%◌, take, replicate}
 use Rattle.std.specs.Prelude.{Result, Ok, Err, OnOk, codes, decimal}
 use Rattle.std.specs.Option.{option_map, option_map_or}
 use Rattle.std.proofs.Math.Seq.{drop-cons}
@@ -8,6 +8,7 @@ use Rattle.std.proofs.lemmas.Option.{none-some, slice_get-map, unwrap_or-slice_g
 use Rattle.nego_data.specs.Data.{data_count, split}
 use Rattle.nego_data.specs.Sizes.{tuple_of}
 use Rattle.nego_model.specs.Diagram.{agent_name, atom_name, atom_of, outcome_name}
+use Rattle.nego_expr.specs.SummaryText.{Appends}
 use Rattle.nego_reader.specs.declared.parsed.Parsed.{Parsed}
 use Rattle.nego_reader.specs.declared.parsed.PAgent.{PAgent}
 use Rattle.nego_reader.specs.declared.parsed.PAtom.{PAtom}
@@ -130,6 +131,10 @@ value_words-more (first ∷ values) value rest = ap (λ t. codes " " ++ (decimal
 pub then_ok : {T E : Type 0} (r : Result T E) (P Q : Type 0) → (P → Q) → OnOk r P → OnOk r Q
 then_ok (Ok x) P Q f h = f h
 then_ok (Err e) P Q f h = tt
+
+-- Words were put behind a text.
+pub appends_words : (old new words : List ℕ) → new ≡ old ++ words → Appends old new (λ rest. words ++ rest)
+appends_words old new words e rest = ap (λ t. t ++ rest) e ∙ append_assoc old words rest
 
 -- as many values as sizes
 length_split : (sizes : List ℕ) (d : ℕ) → length (split sizes d) ≡ length sizes

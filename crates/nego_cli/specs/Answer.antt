@@ -47,9 +47,9 @@ pub record IsRefused (words : List (List ℕ)) (source : Change) (why : Refusal)
 
 -- The failure has its cause. Nothing of what is behind the parts of the command was taken.
 abbrev pub HasFailed : List (List ℕ) → Change → Failure → Type 0
-HasFailed words source failures.Words = asked words ≡ None
+HasFailed words source failures.Words = (asked words ≡ None) × HasRead [] source
 HasFailed words source (failures.Refused why) = IsRefused words source why
-HasFailed words source failures.ReadFault = Failed source × TookParts (most_parts (asked words)) source
+HasFailed words source failures.ReadFault = ((command : Command) × Asks words command) × Failed source × TookParts (most_parts (asked words)) source
 HasFailed words source failures.Memory = Stayed source × TookParts (most_parts (asked words)) source
 
 -- The answer has its cause in the words and in what was taken of the source.

@@ -19,10 +19,11 @@ IsTextPut answer out err status =
 abbrev pub IsLinePut : List ℕ → Status → Change → Status → Type 0
 IsLinePut line wanted err status = ((status ≡ wanted) × Put line err) ⊎ ((status ≡ statuses.WriteFault) × PutFront line err)
 
--- The line of the failure was put, or that of want of memory.
+-- The line of the failure was put; for a refusal maybe that of want of memory.
 abbrev pub IsFailurePut : Failure → Change → Status → Type 0
-IsFailurePut failure err status =
-    IsLinePut (failure_line failure) (failure_status failure) err status ⊎ IsLinePut (failure_line failures.Memory) statuses.Memory err status
+IsFailurePut (failures.Refused why) err status =
+    IsLinePut (failure_line (failures.Refused why)) statuses.Refused err status ⊎ IsLinePut (failure_line failures.Memory) statuses.Memory err status
+IsFailurePut failure err status = IsLinePut (failure_line failure) (failure_status failure) err status
 
 -- The answer was put out.
 abbrev pub IsDelivered : Result Answer Failure → Change → Change → Status → Type 0

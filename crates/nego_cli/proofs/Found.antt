@@ -1,0 +1,50 @@
+-- The answer of the command that words say is the answer to the words.
+use Rattle.std.proofs.Common.{◌≡◌, ◌∙◌, ℕ, List, [], Option, Some, None, Result, Ok, Err, refl, sym, ap, subst}
+use Rattle.std.specs.Prelude.{IfErr, option_and_then}
+use Rattle.nego_cli.specs.declared.answer.Answer.{Answer}
+use Rattle.nego_cli.specs.declared.command.Command.{Command}
+use Rattle.nego_cli.specs.declared.command.Command.TheVariants as commands
+use Rattle.nego_cli.specs.declared.failure.Failure.{Failure}
+use Rattle.nego_cli.specs.declared.failure.Failure.TheVariants as failures
+use Rattle.nego_cli.specs.Change.{Change}
+use Rattle.nego_cli.specs.Parts.{TookParts}
+use Rattle.nego_cli.specs.Turn.{Tells, Refuses}
+use Rattle.nego_cli.specs.Words.{command_of}
+use Rattle.nego_cli.specs.Commands.{parts_of, built, asked, Asks, most_parts}
+use Rattle.nego_cli.specs.Dispatch.{IsAnswer}
+use Rattle.nego_cli.specs.Delivery.{FailureIsNamed}
+use Rattle.nego_cli.specs.Answer.{IsFound}
+use Rattle.nego_cli.proofs.Turns.{one_read, turn_named}
+
+asks_so : (words : List (List ℕ)) (command : Command) → command_of words ≡ Some command → parts_of command ≡ Some 1 → Asks words command
+asks_so words command is one = ap (option_and_then built) is ∙ ap (option_and_then (λ _. Some command)) one
+
+-- a command that isn't built reads no part
+built_most : (command : Command) → most_parts (built command) ≡ most_parts (Some command)
+built_most commands.Check = refl
+built_most commands.Reduce = refl
+built_most commands.Replay = refl
+built_most (commands.Ask starts) = refl
+built_most (commands.Run starts) = refl
+built_most (commands.Node seed turns starts) = refl
+built_most (commands.Make n) = refl
+
+took_so : (words : List (List ℕ)) (command : Command) (source : Change) → command_of words ≡ Some command → TookParts (most_parts (Some command)) source → TookParts (most_parts (asked words)) source
+took_so words command source is took = subst (λ n. TookParts n source) (sym (ap (λ c. most_parts (option_and_then built c)) is ∙ built_most command)) took
+
+pub found_so : (words : List (List ℕ)) (command : Command) (source : Change) (r : Result Answer Failure) → command_of words ≡ Some command → IsAnswer command source r → IsFound words source r
+found_so words command source (Ok answer) is (reads, read, turn, told) =
+    record { command = command; reads = reads; asks = asks_so words command is (one_read command reads Tells turn).1; read = read; turn = turn; told = told }
+found_so words command source (Err failures.Words) is (none, read) = (ap (option_and_then built) is ∙ ap (option_and_then (λ _. Some command)) none, read)
+found_so words command source (Err (failures.Refused why)) is (reads, read, turn) =
+    record { command = command; reads = reads; asks = asks_so words command is (one_read command reads (Refuses why) turn).1; read = read; turn = turn }
+found_so words command source (Err failures.ReadFault) is (asks, failed, took) = ((command, ap (option_and_then built) is ∙ asks), failed, took_so words command source is took)
+found_so words command source (Err failures.Memory) is (stayed, took) = (stayed, took_so words command source is took)
+
+-- what a refusal names is there
+pub found_named : (words : List (List ℕ)) (source : Change) (r : Result Answer Failure) → IsFound words source r → IfErr r FailureIsNamed
+found_named words source (Ok answer) h = tt
+found_named words source (Err failures.Words) h = tt
+found_named words source (Err (failures.Refused why)) h = turn_named h.command h.reads why h.turn
+found_named words source (Err failures.ReadFault) h = tt
+found_named words source (Err failures.Memory) h = tt

@@ -1,0 +1,109 @@
+-- What was read where a diagram was wanted.
+use Rattle.std.proofs.Common.{◌≡◌, ◌∙◌, ℕ, zero, suc, List, [], ◌∷◌, Option, Some, None, refl, sym, ap, ap₂, subst, inl, inr, arith}
+use Rattle.std.specs.Prelude.{IfSome}
+use Rattle.std.specs.Option.{option_or}
+use Rattle.std.proofs.lemmas.Option.{same_Some}
+use Rattle.nego_io.specs.Outside.{WhereTold}
+use Rattle.nego_io.proofs.BehindLaws.{within}
+use Rattle.nego_io.proofs.OutsideLaws.{told_so}
+use Rattle.nego_model.specs.Diagram.{PlainDiagram}
+use Rattle.nego_reader.specs.declared.parsed.Parsed.{Parsed}
+use Rattle.nego_reader.specs.Spelling.{Spells}
+use Rattle.nego_reader.proofs.Said.{spelled_once}
+use Rattle.nego_shape.specs.declared.fault.ShapeFault.{ShapeFault}
+use Rattle.nego_shape.specs.Answer.{AreJointIn}
+use Rattle.nego_shape.specs.Faults.{form_fault, not_total, shape_fault}
+use Rattle.nego_shape.proofs.JointLaws.{form_joint, total_joint}
+use Rattle.nego_shape.proofs.SoundShape.{shaped_form}
+use Rattle.nego_cli.specs.declared.failure.Refusal.{Refusal}
+use Rattle.nego_cli.specs.declared.failure.Refusal.TheVariants as refusals
+use Rattle.nego_cli.specs.Change.{Change}
+use Rattle.nego_cli.specs.Parts.{Read, ReadPart, ReadTooLong, ReadNoEnd, Reads, HasRead, TakesParts, TookParts, part_limit}
+use Rattle.nego_cli.specs.Loading.{SpellsDiagram, HasNoDiagram, IsNoDiagram}
+use Rattle.nego_cli.specs.Refusals.{IsNamed, diagram_of}
+
+-- ---- what is taken
+
+-- With one part read, one part was taken.
+pub took_one : (read : Read) (source : Change) → HasRead (read ∷ []) source → TookParts 1 source
+took_one read source h = told_so (Reads (read ∷ [])) (TakesParts 1) source.before source.after (λ input left is. inr (sym is.1)) h.1
+
+takes_none : (n : ℕ) (input : List ℕ) → TakesParts n input input
+takes_none zero input = refl
+takes_none (suc n) input = inl (within part_limit [] input input (λ now part found. omega arith) (omega arith) refl)
+
+-- Where nothing was taken, no more than some parts was.
+pub took_none : (n : ℕ) (left : Option (List ℕ)) → WhereTold left left (TakesParts n)
+took_none n None = tt
+took_none n (Some input) = takes_none n input
+
+-- ---- one cause
+
+-- the diagram that a text spells is one
+pub one_diagram : (text : List ℕ) (d e : PlainDiagram) → SpellsDiagram text d → SpellsDiagram text e → d ≡ e
+one_diagram text d e s t = s.is ∙ (ap diagram_of (spelled_once text s.value t.value s.spelled t.spelled) ∙ sym t.is)
+
+-- a value that a text spells has no fault of shape where it spells a diagram
+misshapen_not : (text : List ℕ) (p : Parsed) (fault : ShapeFault) (d : PlainDiagram) → Spells text p → shape_fault p ≡ Some fault → SpellsDiagram text d → ⊥
+misshapen_not text p fault d spelled faulty s =
+    let apart : Some fault ≡ None = sym faulty ∙ (ap shape_fault (spelled_once text p s.value spelled s.spelled) ∙ s.shaped) in
+    cc
+
+-- a text that has no diagram spells none
+pub no_diagram_not : (text : List ℕ) (why : Refusal) (d : PlainDiagram) → HasNoDiagram text why → SpellsDiagram text d → ⊥
+no_diagram_not text (refusals.Off part fault) d h s = h.2 s.value s.spelled
+no_diagram_not text (refusals.Misshapen p fault) d h s = misshapen_not text p fault d h.0 h.1 s
+no_diagram_not text (refusals.TooLong part) d h s = h
+no_diagram_not text (refusals.NoEnd part line) d h s = h
+no_diagram_not text (refusals.Undetermined e o a) d h s = h
+no_diagram_not text refusals.NotYet d h s = h
+
+-- the reason that a text has no diagram is one
+why_once : (text : List ℕ) (why other : Refusal) → HasNoDiagram text why → HasNoDiagram text other → why ≡ other
+why_once text (refusals.Off part fault) (refusals.Off part' fault') h k = ap₂ refusals.Off (h.0 ∙ sym k.0) (same_Some fault fault' (sym h.1 ∙ k.1))
+why_once text (refusals.Off part fault) (refusals.Misshapen p fault') h k = absurd (h.2 p k.0)
+why_once text (refusals.Misshapen p fault') (refusals.Off part fault) h k = absurd (k.2 p h.0)
+why_once text (refusals.Misshapen p fault) (refusals.Misshapen q fault') h k =
+    let same : p ≡ q = spelled_once text p q h.0 k.0 in
+    ap₂ refusals.Misshapen same (same_Some fault fault' (sym h.1 ∙ (ap shape_fault same ∙ k.1)))
+why_once text (refusals.TooLong part) other h k = absurd h
+why_once text (refusals.NoEnd part line) other h k = absurd h
+why_once text (refusals.Undetermined e o a) other h k = absurd h
+why_once text refusals.NotYet other h k = absurd h
+why_once text (refusals.Off part fault) (refusals.TooLong part') h k = absurd k
+why_once text (refusals.Off part fault) (refusals.NoEnd part' line) h k = absurd k
+why_once text (refusals.Off part fault) (refusals.Undetermined e o a) h k = absurd k
+why_once text (refusals.Off part fault) refusals.NotYet h k = absurd k
+why_once text (refusals.Misshapen p fault) (refusals.TooLong part') h k = absurd k
+why_once text (refusals.Misshapen p fault) (refusals.NoEnd part' line) h k = absurd k
+why_once text (refusals.Misshapen p fault) (refusals.Undetermined e o a) h k = absurd k
+why_once text (refusals.Misshapen p fault) refusals.NotYet h k = absurd k
+
+-- the reason that what was read is no diagram is one
+pub no_diagram_once : (read : Read) (why other : Refusal) → IsNoDiagram read why → IsNoDiagram read other → why ≡ other
+no_diagram_once (ReadPart text) why other h k = why_once text why other h k
+no_diagram_once ReadTooLong why other h k = h ∙ sym k
+no_diagram_once (ReadNoEnd line) why other h k = h ∙ sym k
+
+-- ---- what a refusal names
+
+some_has : {B : Type 0} (P : B → Type 0) (o : Option B) (x : B) → IfSome o P → o ≡ Some x → P x
+some_has P o x h is = subst (λ o. IfSome o P) is h
+
+joint_of : (p : Parsed) (fault : ShapeFault) (first : Option ShapeFault) → form_fault p ≡ first → option_or first (not_total p) ≡ Some fault → AreJointIn p fault.kind
+joint_of p fault (Some f) is h = some_has (λ x. AreJointIn p x.kind) (form_fault p) fault (form_joint p) (is ∙ h)
+joint_of p fault None is h = some_has (λ x. AreJointIn p x.kind) (not_total p) fault (total_joint p (shaped_form p is).sizes) h
+
+named_in : (text : List ℕ) (why : Refusal) → HasNoDiagram text why → IsNamed why
+named_in text (refusals.Misshapen p fault) h = joint_of p fault (form_fault p) refl h.1
+named_in text (refusals.Off part fault) h = tt
+named_in text (refusals.TooLong part) h = tt
+named_in text (refusals.NoEnd part line) h = tt
+named_in text (refusals.Undetermined e o a) h = absurd h
+named_in text refusals.NotYet h = tt
+
+-- what is named where there is no diagram is there
+pub no_diagram_named : (read : Read) (why : Refusal) → IsNoDiagram read why → IsNamed why
+no_diagram_named (ReadPart text) why h = named_in text why h
+no_diagram_named ReadTooLong why h = subst IsNamed (sym h) tt
+no_diagram_named (ReadNoEnd line) why h = subst IsNamed (sym h) tt
