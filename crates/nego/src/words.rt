@@ -1,35 +1,76 @@
 //! The words of the command line.
 
+ghost use Rattle.std.specs.Prelude.{◌≡◌, ℕ, List, Option, IfOk, IfSome, drop, slice_get};
+ghost use Rattle.std.specs.Io.{WritesAtMost};
+ghost use Rattle.nego.specs.Words.{IsTextOf, IsWordOf};
+
 use nego_base::{Memory, Seq, Text};
+use std::alloc::Global;
 use std::env::FillError;
 use std::rt::Env;
 use std::str;
 
+/// The arguments of a call. The first, number 0, is the program's name.
+pub(crate) trait Arguments {
+    /// All of them as words, where they are told.
+    ghost told: { Self → Option (List (List ℕ)) };
+
+    /// The argument of this number as a word, and none past the last.
+    fn word(&self, alloc: Global, i: usize) -> Result<Option<Text>, Memory>
+        ensures { IfOk result (λ word. IfSome (told self.now) (λ all. word ≡ slice_get all i)) };
+}
+
+/// The words of a call: its arguments behind the program's name, all of them in their order.
+pub(crate) fn words_of<A: Arguments>(alloc: Global, arguments: &A) -> Result<Seq<Text>, Memory>
+    ensures { IfOk result (λ words. IfSome (A.told arguments.now) (λ all. words ≡ drop 1 all)) }
+{
+    let mut words = Seq::new(alloc);
+    while let Some(word) = arguments.word(alloc, words.as_slice().len() + 1)? {
+        words.push(word)?;
+    }
+    Ok(words)
+}
+
+/// The arguments that the system gives. It tells nothing of them.
+pub(crate) struct SystemArguments<'a, R: Env> {
+    pub rt: &'a R,
+}
+
 /// How many bytes of an argument are looked at. No word of a command has so many.
 const ARGUMENT_ROOM: usize = 4096;
 
-/// One argument as a word: its bytes, or none where it isn't UTF-8 or is longer than any word. None past the last.
-fn word_at(rt: &(impl Env + AllocGlobal), i: usize) -> Result<Option<Text>, Memory> {
-    let mut buf = [0u8; ARGUMENT_ROOM];
-    let bytes: &[u8] = match rt.arg(i, &mut buf) {
-        Ok(count) => &buf[..count],
-        Err(FillError::TooLong) => &[],
-        Err(FillError::NotPresent) => return Ok(None),
-    };
-    match str::from_utf8(bytes) {
-        Ok(text) => Ok(Some(Text::copy(rt.alloc(), text.as_bytes())?)),
-        Err(_) => Ok(Some(Text::new(rt.alloc()))),
+impl<R: Env> Arguments for SystemArguments<'_, R> {
+    ghost told = { λ _. None };
+
+    fn word(&self, alloc: Global, i: usize) -> Result<Option<Text>, Memory> {
+        let mut buf = [0u8; ARGUMENT_ROOM];
+        let answer = self.rt.arg(i, &mut buf);
+        word_of(alloc, answer, &buf)
     }
 }
 
-/// The arguments behind the program's name.
-pub(crate) fn words_of(rt: &(impl Env + AllocGlobal)) -> Result<Seq<Text>, Memory> {
-    let mut words = Seq::new(rt.alloc());
-    for i in 1..usize::MAX {
-        match word_at(rt, i)? {
-            Some(word) => words.push(word)?,
-            None => break,
-        }
+/// What the system answered for an argument, with the bytes that it wrote, as a word.
+fn word_of(
+    alloc: Global,
+    answer: Result<usize, FillError>,
+    written: &[u8],
+) -> Result<Option<Text>, Memory>
+    requires { WritesAtMost answer written.now }
+    ensures { IfOk result (IsWordOf answer written.now) }
+{
+    match answer {
+        Ok(count) => Ok(Some(Text::copy(alloc, text_of(&written[..count]))?)),
+        Err(FillError::TooLong) => Ok(Some(Text::new(alloc))),
+        Err(FillError::NotPresent) => Ok(None),
     }
-    Ok(words)
+}
+
+/// The bytes where they are UTF-8, and no bytes where they aren't.
+fn text_of(bytes: &[u8]) -> &[u8]
+    ensures { IsTextOf bytes.now result.now }
+{
+    match str::from_utf8(bytes) {
+        Ok(text) => text.as_bytes(),
+        Err(_) => b"",
+    }
 }

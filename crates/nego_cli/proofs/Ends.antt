@@ -1,5 +1,5 @@
 -- How a call ends: what its status says, and that each cause has its answer.
-use Rattle.std.proofs.Common.{◌≡◌, ◌⊎◌, ◌∙◌, inl, inr, ℕ, List, [], ◌∷◌, length, Option, Some, None, Result, Ok, Err, refl, sym, ap, subst}
+use Rattle.std.proofs.Common.{◌≡◌, ◌⊎◌, ◌∙◌, inl, inr, ℕ, List, [], length, Some, None, Result, Ok, Err, refl, sym, ap, subst}
 use Rattle.std.proofs.lemmas.Option.{same_Some}
 use Rattle.nego_io.specs.Outside.{WhereTold}
 use Rattle.nego_io.proofs.OutsideLaws.{told_so}
@@ -13,9 +13,9 @@ use Rattle.nego_cli.specs.declared.status.Status.TheVariants as statuses
 use Rattle.nego_cli.specs.Change.{Change, Failed, Put}
 use Rattle.nego_cli.specs.Parts.{Read, Reads, reads_at, HasRead, TakesParts, TookParts}
 use Rattle.nego_cli.specs.Turn.{Turn, Tells, Refuses}
-use Rattle.nego_cli.specs.Commands.{TurnOf, TextOf, parts_of, asked, Asks, most_parts}
+use Rattle.nego_cli.specs.Commands.{TurnOf, TextOf, asked, Asks, most_parts}
 use Rattle.nego_cli.specs.Delivery.{IsDelivered, IsLinePut}
-use Rattle.nego_cli.specs.Answer.{failure_line, failure_status, IsTold, IsRefused, HasFailed, IsFound, Says, LineStands, ShowsLine, ShowsText, FailsToRead}
+use Rattle.nego_cli.specs.Answer.{failure_line, failure_status, IsTold, IsRefused, HasFailed, IsFound, Says, ShowsLine, ShowsText, FailsToRead}
 use Rattle.nego_cli.proofs.Loaded.{took_one}
 use Rattle.nego_cli.proofs.Turns.{one_read, one_turn, text_done}
 

@@ -1,11 +1,10 @@
 -- How commands end: behind one part, in one way.
-use Rattle.std.proofs.Common.{◌≡◌, ◌∙◌, ⊎_elim, inl, inr, ℕ, zero, suc, ◌+◌, ◌<◌, ◌≤◌, List, [], ◌∷◌, length, Option, Some, None, Result, Ok, Err, refl, sym, ap, ap₂, subst, arith}
+use Rattle.std.proofs.Common.{◌≡◌, ◌∙◌, ⊎_elim, inl, inr, ℕ, zero, suc, ◌<◌, ◌≤◌, List, [], ◌∷◌, length, Some, Result, Ok, Err, refl, sym, ap, subst, arith}
 use Rattle.std.specs.Prelude.{IfOk, IfErr}
 use Rattle.std.proofs.lemmas.Bool.{cases_lt}
 use Rattle.nego_base.specs.declared.ids.AgentId.{AgentId}
 use Rattle.nego_base.specs.declared.ids.OutcomeId.{OutcomeId}
-use Rattle.nego_model.specs.Negotiation.{IsDeterministic}
-use Rattle.nego_model.specs.Diagram.{PlainDiagram, IsDiagram, negotiation_of, nexts_of}
+use Rattle.nego_model.specs.Diagram.{PlainDiagram, IsDiagram, nexts_of}
 use Rattle.nego_model.specs.Undetermined.{IsFirstUndetermined}
 use Rattle.nego_model.proofs.Undetermined.{undetermined}
 use Rattle.nego_reader.specs.Content.{content_of}

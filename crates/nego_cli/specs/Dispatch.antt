@@ -1,5 +1,5 @@
 -- What passes between a command and the words that ask for it.
-use Rattle.std.specs.Prelude.{◌≡◌, ℕ, List, [], None, Some, Result, Ok, Err}
+use Rattle.std.specs.Prelude.{◌≡◌, List, [], None, Some, Result, Ok, Err}
 use Rattle.nego_cli.specs.declared.answer.Answer.{Answer}
 use Rattle.nego_cli.specs.declared.command.Command.{Command}
 use Rattle.nego_cli.specs.declared.failure.Failure.{Failure}

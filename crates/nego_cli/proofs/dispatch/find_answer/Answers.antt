@@ -1,4 +1,4 @@
-use Rattle.std.proofs.Common.{refl, sym}
+use Rattle.std.proofs.Common.{refl}
 use Rattle.nego_cli.specs.Change.{change}
 use Rattle.nego_cli.specs.Commands.{asked, most_parts}
 use Rattle.nego_cli.proofs.Found.{found_so}
