@@ -1,6 +1,6 @@
 //! The words of the command line.
 
-ghost use Rattle.std.specs.Prelude.{◌≡◌, ℕ, List, Option, IfOk, IfSome, drop, slice_get};
+ghost use Rattle.std.specs.Prelude.{◌≡◌, ℕ, List, Option, None, IfOk, IfSome, drop, slice_get};
 ghost use Rattle.std.specs.Io.{WritesAtMost};
 ghost use Rattle.nego.specs.Words.{IsTextOf, IsWordOf};
 
@@ -32,6 +32,7 @@ pub(crate) fn words_of<A: Arguments>(alloc: Global, arguments: &A) -> Result<Seq
 }
 
 /// The arguments that the system gives. It tells nothing of them.
+#[derive(Drop)]
 pub(crate) struct SystemArguments<'a, R: Env> {
     pub rt: &'a R,
 }
