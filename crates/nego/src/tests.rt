@@ -1,1 +1,64 @@
+//! Tests of what no clause says: that calls with memory at hand answer otherwise than by want of it.
 
+mod answers;
+mod calls;
+mod data;
+mod edge;
+mod linking;
+mod naming;
+mod refusals;
+mod rules;
+mod runs;
+mod shapes;
+mod words;
+
+use answers::ANSWERS;
+use calls::{BAD_WORDS, Call, answers};
+use refusals::{FAULTS, REFUSALS};
+use shapes::shapes_are_told;
+use std::test::Fail;
+
+/// Words that are no command that is built.
+static NOT_BUILT: [&str; 9] = [
+    "",
+    "reduce x",
+    "replay",
+    "help",
+    "--help",
+    "ask",
+    "ask 01",
+    "make 65",
+    "make 2",
+];
+
+#[test]
+fn calls_over_memory(rt: HostRuntime) -> Result<(), Fail> {
+    let alloc = rt.alloc();
+    for (i, call) in ANSWERS.iter().enumerate() {
+        answers(&rt, alloc, call, "answer", i)?;
+    }
+    for (i, call) in REFUSALS.iter().enumerate() {
+        answers(&rt, alloc, call, "refusal", i)?;
+    }
+    for (i, call) in FAULTS.iter().enumerate() {
+        answers(&rt, alloc, call, "fault", i)?;
+    }
+    for (i, words) in NOT_BUILT.iter().enumerate() {
+        let call = Call { words, ..BAD_WORDS };
+        answers(&rt, alloc, &call, "words", i)?;
+    }
+    shapes_are_told(&rt, alloc)
+}
+
+#[test]
+fn words_runs_and_rules(rt: HostRuntime) -> Result<(), Fail> {
+    let alloc = rt.alloc();
+    words::words_are_read(&rt, alloc)?;
+    runs::runs_go_so_far(&rt, alloc)?;
+    rules::rules_are_used(&rt, alloc)
+}
+
+#[test]
+fn calls_over_streams(rt: HostRuntime) -> Result<(), Fail> {
+    edge::calls_end(&rt, rt.alloc())
+}

@@ -1,0 +1,346 @@
+//! What is told on `out`.
+
+use crate::tests::calls::{Call, PURCHASE, REDUCED};
+
+pub(crate) static ANSWERS: [Call; 15] = [
+    REDUCED,
+    Call {
+        input: b"nego 1
+agent a 2
+atom only a
+out set
+case : a:=1
+first only
+last only
+end
+end
+more",
+        left: b"end\nmore",
+        ..REDUCED
+    },
+    Call {
+        input: b"nego 1
+# x
+
+agent a 2
+atom only a
+ out \t set
+case  : a:=1
+first only
+last only
+end
+",
+        ..REDUCED
+    },
+    Call {
+        input: b"nego 1\r
+agent a 2
+atom only a
+out set
+case : a:=1
+first only
+last only
+end
+",
+        ..REDUCED
+    },
+    Call {
+        input: b"nego 1
+agent a 2
+atom only a
+out set
+case : a:=1
+out keep
+case :
+first only
+last only
+end
+",
+        out: b"certificate 1
+end
+sound uses 0
+summary 1
+node 0 base 0
+node 1 base 1
+final set 0
+final keep 1
+end
+",
+        ..REDUCED
+    },
+    Call {
+        input: b"nego 1
+agent a 2
+atom only a
+out flip
+case a=0 : a:=1
+case a=1 : a:=0
+first only
+last only
+end
+",
+        out: b"certificate 1
+end
+sound uses 0
+summary 1
+node 0 base 0
+final flip 0
+end
+",
+        ..REDUCED
+    },
+    Call {
+        input: b"nego 1
+agent a 4
+atom start a
+out go
+case : a:=1
+next stop a
+atom stop a
+out ok
+case : a:=a+1
+first start
+last stop
+end
+",
+        out: b"certificate 1
+close
+end
+sound uses 1
+summary 1
+node 0 base 0
+node 1 base 1
+node 2 then 0 1
+final ok 2
+end
+",
+        ..REDUCED
+    },
+    Call {
+        input: b"nego 1
+agent a 3
+atom start a
+out zero
+case : a:=0
+next stop a
+out keep
+case :
+next stop a
+atom stop a
+out ok
+case :
+first start
+last stop
+end
+",
+        out: b"certificate 1
+merge 0 1
+close
+end
+sound uses 2
+summary 1
+node 0 base 0
+node 1 base 1
+node 2 base 2
+node 3 join 0 1
+node 4 then 3 2
+final ok 4
+end
+",
+        ..REDUCED
+    },
+    Call {
+        input: b"nego 1
+agent a 2
+atom start a
+out go
+case : a:=*
+next stop a
+atom stop a
+out accept
+case :
+out reject
+case : a:=0
+first start
+last stop
+end
+",
+        out: b"certificate 1
+close
+end
+sound uses 1
+summary 1
+node 0 base 0
+node 1 base 1
+node 2 base 2
+node 3 then 0 1
+node 4 then 0 2
+final accept 3
+final reject 4
+end
+",
+        ..REDUCED
+    },
+    Call {
+        input: b"nego 1
+agent a 2
+agent b 3
+atom start a b
+out go
+case a=b : a:=0
+case a!=b : b:=a
+next stop a b
+atom stop a b
+out ok
+case :
+first start
+last stop
+end
+",
+        out: b"certificate 1
+close
+end
+sound uses 1
+summary 1
+node 0 base 0
+node 1 base 1
+node 2 then 0 1
+final ok 2
+end
+",
+        ..REDUCED
+    },
+    Call {
+        input: b"nego 1
+agent a 2
+agent b 3
+atom only a b
+out set
+case a<b : a:=0 b:=a
+case a>=b : b:=2
+out keep
+case :
+first only
+last only
+end
+",
+        out: b"certificate 1
+end
+sound uses 0
+summary 1
+node 0 base 0
+node 1 base 1
+final set 0
+final keep 1
+end
+",
+        ..REDUCED
+    },
+    Call {
+        words: "check",
+        input: b"nego 1
+agent a 2
+agent b 2
+agent c 2
+atom fork a b c
+out go
+case :
+next ab a b
+next cc c
+atom ab a b
+out x
+case : a:=b b:=a
+next join a b
+atom cc c
+out y
+case : c:=1
+next join c
+atom join a b c
+out ok
+case :
+first fork
+last join
+end
+",
+        out: b"agents 3
+atoms 4
+outcomes 4
+joint 8
+deterministic
+acyclic fork ab cc join
+",
+        ..REDUCED
+    },
+    Call {
+        words: "check",
+        input: b"nego 1
+agent a 4
+atom turn a
+out again
+case : a:=a+1
+next turn a
+out stop
+case :
+next end a
+atom end a
+out ok
+case :
+first turn
+last end
+end
+",
+        out: b"agents 1
+atoms 2
+outcomes 3
+joint 4
+deterministic
+cyclic turn
+",
+        ..REDUCED
+    },
+    Call {
+        words: "check",
+        input: b"nego 1
+agent a 2
+atom start a
+out go
+case :
+next p a
+next q a
+atom p a
+out o
+case :
+next end a
+atom q a
+out o
+case :
+next end a
+atom end a
+out ok
+case :
+first start
+last end
+end
+",
+        out: b"agents 1
+atoms 4
+outcomes 4
+joint 2
+not deterministic start.go a
+acyclic start p q end
+",
+        ..REDUCED
+    },
+    Call {
+        words: "check",
+        input: PURCHASE,
+        out: b"agents 4
+atoms 6
+outcomes 10
+joint 64
+deterministic
+cyclic talk
+",
+        ..REDUCED
+    },
+];

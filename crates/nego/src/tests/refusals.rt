@@ -1,0 +1,504 @@
+//! Lines of refusals, and faults of the streams.
+
+use crate::tests::calls::{Call, REDUCED, REFUSED, SET};
+
+/// What is refused.
+pub(crate) static REFUSALS: [Call; 29] = [
+    Call {
+        input: b"nego 1
+agent a 2
+atom start a
+out go
+case :
+next p a
+next q a
+atom p a
+out o
+case :
+next end a
+atom q a
+out o
+case :
+next end a
+atom end a
+out ok
+case :
+first start
+last end
+end
+",
+        err: b"refused NotDeterministic start.go a\n",
+        ..REFUSED
+    },
+    Call {
+        words: "check",
+        input: b"nego 1
+agent a 4
+agent b 2
+atom only a b
+out reply
+case a<3 : a:=b
+first only
+last only
+end
+",
+        err: b"refused diagram line 5 NotTotal only.reply 3 0\n",
+        ..REFUSED
+    },
+    Call {
+        words: "check",
+        input: b"nego 1
+agent a 0
+agent b 2
+atom only a b
+out reply
+case a<3 : a:=b
+first only
+last only
+end
+",
+        err: b"refused diagram line 2 ZeroSize a\n",
+        ..REFUSED
+    },
+    Call {
+        words: "check",
+        input: b"nego 1
+agent a 25
+agent b 41
+atom only a b
+out reply
+case a<3 : a:=b
+first only
+last only
+end
+",
+        err: b"refused diagram line 3 JointTooLarge b\n",
+        ..REFUSED
+    },
+    Call {
+        words: "check",
+        input: b"nego 1
+agent a0 1
+agent a1 1
+agent a2 1
+agent a3 1
+agent a4 1
+agent a5 1
+agent a6 1
+agent a7 1
+agent a8 1
+agent a9 1
+agent a10 1
+agent a11 1
+agent a12 1
+agent a13 1
+agent a14 1
+agent a15 1
+agent a16 1
+first x
+last x
+end
+",
+        err: b"refused diagram line 18 TooMany agents\n",
+        ..REFUSED
+    },
+    Call {
+        input: b"nego 1
+agent a 2
+agent b 2
+agent c 2
+atom fork a b c
+out go
+case :
+next ab a b
+next cc c
+atom ab a b
+out x
+case : a:=b b:=a
+next join a b
+atom cc c
+out y
+case : c:=1
+next join c
+atom join a b c
+out ok
+case :
+first fork
+last join
+end
+",
+        err: b"refused diagram not yet\n",
+        ..REFUSED
+    },
+    Call {
+        input: b"nego 1
+agent a 4
+atom turn a
+out again
+case : a:=a+1
+next turn a
+out stop
+case :
+next end a
+atom end a
+out ok
+case :
+first turn
+last end
+end
+",
+        err: b"refused diagram not yet\n",
+        ..REFUSED
+    },
+    Call {
+        input: b"nego 1
+agent a 2
+agent b 2
+atom extra a b
+out x
+case :
+next only a b
+atom only a b
+out set
+case : a:=1
+first only
+last only
+end
+",
+        err: b"refused diagram not yet\n",
+        ..REFUSED
+    },
+    Call {
+        input: b"nego 3
+agent a 2
+atom only a
+out set
+case : a:=1
+first only
+last only
+end
+",
+        err: b"refused diagram line 1 column 6 Version\n",
+        ..REFUSED
+    },
+    Call {
+        input: b"nego 1
+agent a 01
+atom only a
+out set
+case : a:=1
+first only
+last only
+end
+",
+        err: b"refused diagram line 2 column 9 Number\n",
+        ..REFUSED
+    },
+    Call {
+        input: b"nego 1
+agent A 2
+atom only a
+out set
+case : a:=1
+first only
+last only
+end
+",
+        err: b"refused diagram line 2 column 7 Name\n",
+        ..REFUSED
+    },
+    Call {
+        input: b"nego 1
+agent a 2
+atom only a
+out set
+case a=0 a:=1
+first only
+last only
+end
+",
+        err: b"refused diagram line 5 column 1 Case\n",
+        ..REFUSED
+    },
+    Call {
+        input: b"nego 1
+agent a 2
+foo
+out set
+case : a:=1
+first only
+last only
+end
+",
+        err: b"refused diagram line 3 column 1 Word\n",
+        ..REFUSED
+    },
+    Call {
+        input: b"nego 3
+agent a 2
+atom only a
+out s\x07t
+case : a:=1
+first only
+last only
+end
+",
+        err: b"refused diagram line 4 column 6 Byte\n",
+        ..REFUSED
+    },
+    Call {
+        input: b"nego 1
+agent a
+atom only a
+out set
+case : a:=1
+first only
+last only
+end
+",
+        err: b"refused diagram line 2 column 8 Count\n",
+        ..REFUSED
+    },
+    Call {
+        input: b"nego 1
+agent a 2 3
+atom only a
+out set
+case : a:=1
+first only
+last only
+end
+",
+        err: b"refused diagram line 2 column 11 Count\n",
+        ..REFUSED
+    },
+    Call {
+        input: b"nego 1
+agent a 2
+atom only a
+out set
+case : a:=1
+first other
+last only
+end
+",
+        err: b"refused diagram line 6 Unknown other\n",
+        ..REFUSED
+    },
+    Call {
+        input: b"nego 1
+agent a 2
+atom only a
+out set
+case : a:=2
+first only
+last only
+end
+",
+        err: b"refused diagram line 5 ValueTooLarge only.set a\n",
+        ..REFUSED
+    },
+    Call {
+        input: b"nego 1
+agent a 65
+atom only a
+out set
+case : a:=1
+first only
+last only
+end
+",
+        err: b"refused diagram line 2 SizeTooLarge a\n",
+        ..REFUSED
+    },
+    Call {
+        input: b"nego 1
+agent a 2
+agent b 1
+atom only a
+out set
+case : a:=1
+first only
+last only
+end
+",
+        err: b"refused diagram line 7 FirstLacks b\n",
+        ..REFUSED
+    },
+    Call {
+        input: b"nego 1
+agent a 2
+atom only a
+out set
+case a=0 : a:=1
+first only
+last only
+end
+",
+        err: b"refused diagram line 4 NotTotal only.set 1\n",
+        ..REFUSED
+    },
+    // The fault of shape comes before the second next atom, and faults of the grammar before both.
+    Call {
+        input: b"nego 1
+agent a 2
+atom start a
+out go
+case : a:=2
+next p a
+next q a
+atom p a
+out o
+case :
+next end a
+atom q a
+out o
+case :
+next end a
+atom end a
+out ok
+case :
+first start
+last end
+end
+",
+        err: b"refused diagram line 5 ValueTooLarge start.go a\n",
+        ..REFUSED
+    },
+    Call {
+        words: "check",
+        input: b"nego 1
+agent a 2
+atom start a
+out go
+case : a:=2
+next p a
+next q a
+atom p a
+out o
+case :
+next end a
+atom q a
+out o
+case :
+next end a
+atom end a
+out ok
+case :
+first start
+last end
+end
+",
+        err: b"refused diagram line 5 ValueTooLarge start.go a\n",
+        ..REFUSED
+    },
+    Call {
+        input: b"nego 1
+agent a 02
+atom start a
+out go
+case : a:=2
+next p a
+next q a
+atom p a
+out o
+case :
+next end a
+atom q a
+out o
+case :
+next end a
+atom end a
+out ok
+case :
+first start
+last end
+end
+",
+        err: b"refused diagram line 2 column 9 Number\n",
+        ..REFUSED
+    },
+    Call {
+        input: b"nego 1
+agent a 2
+atom start a
+out go
+case : a:=2
+next p a
+next q a
+atom p a
+out o
+case :
+next end a
+atom q a
+out o
+case :
+next end a
+atom end a
+out Ok
+case :
+first start
+last end
+end
+",
+        err: b"refused diagram line 17 column 5 Name\n",
+        ..REFUSED
+    },
+    Call {
+        input: b"",
+        err: b"refused diagram line 1 NoEnd\n",
+        ..REFUSED
+    },
+    Call {
+        hashes: 262_145,
+        input: b"",
+        err: b"refused diagram TooLong\n",
+        ..REFUSED
+    },
+    Call {
+        hashes: 262_140,
+        input: b"\nend",
+        err: b"refused diagram line 1 column 1025 Line\n",
+        ..REFUSED
+    },
+    Call {
+        hashes: 262_140,
+        input: b"
+end
+",
+        err: b"refused diagram TooLong\n",
+        ..REFUSED
+    },
+];
+
+/// Faults of the source and of the sinks.
+pub(crate) static FAULTS: [Call; 4] = [
+    Call {
+        source_fails: &[0],
+        status: 5,
+        out: b"",
+        err: b"read fault\n",
+        left: SET,
+        ..REDUCED
+    },
+    Call {
+        out_fails: &[0],
+        status: 6,
+        out: b"",
+        err: b"write fault\n",
+        ..REDUCED
+    },
+    Call {
+        out_fails: &[0],
+        err_fails: &[0],
+        status: 6,
+        out: b"",
+        ..REDUCED
+    },
+    Call {
+        input: b"",
+        err_fails: &[0],
+        status: 6,
+        ..REFUSED
+    },
+];
