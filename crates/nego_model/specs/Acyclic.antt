@@ -1,5 +1,5 @@
 -- When a negotiation is acyclic.
-use Rattle.std.specs.Prelude.{◌≢◌, ◌≡◌, ℕ, List, All, IsTrue}
+use Rattle.std.specs.Prelude.{◌≢◌, ◌≡◌, ℕ, ◌+◌, ◌<◌, ◌==◌, if◌then◌else◌, List, [], ◌∷◌, All, IsTrue}
 use Rattle.std.specs.List.{AllPairs}
 use Rattle.nego_base.specs.Members.{is_in}
 use Rattle.nego_model.specs.Negotiation.{Negotiation, IsOutcome}
@@ -22,3 +22,14 @@ pub record IsForwardOrder (nego : Negotiation) (order : List ℕ) : Type 0 where
 -- In some order of the atoms every edge goes forward.
 abbrev pub IsAcyclic : Negotiation → Type 0
 IsAcyclic nego = (order : List ℕ) × IsForwardOrder nego order
+
+-- the rank of an atom in an order: its first place
+abbrev pub rank_in : List ℕ → ℕ → ℕ
+rank_in [] n = 0
+rank_in (m ∷ order) n = if m == n then 0 else rank_in order n + 1
+
+-- An order ranks a negotiation: each atom stands in it, and each edge leads to an atom of a greater rank. Atoms that
+-- were dropped may stand in it too.
+pub record IsRankedBy (nego : Negotiation) (order : List ℕ) : Type 0 where
+  pub atoms : (n : ℕ) → IsTrue (is_in n nego.atoms) → IsTrue (is_in n order)
+  pub forward : (m n : ℕ) → IsEdge nego m n → rank_in order m < rank_in order n

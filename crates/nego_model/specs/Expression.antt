@@ -1,5 +1,5 @@
 -- Expressions over outcomes, and the relation that they mean.
-use Rattle.std.specs.Prelude.{◌≡◌, ◌⊎◌, ℕ, ◌<◌, ◌==◌, List, [], ◌∷◌, reverse, length, slice_get, Some, All, MatchBool, ⊤}
+use Rattle.std.specs.Prelude.{◌≡◌, ◌⊎◌, ℕ, ◌<◌, ◌==◌, List, [], ◌∷◌, reverse, length, slice_get, Option, Some, All, MatchBool, MatchOption, ⊤}
 use Rattle.nego_model.specs.Joining.{Relation, RelationTest, By}
 
 -- a node of an expression: an outcome, or one or two nodes of smaller numbers
@@ -41,9 +41,16 @@ MeansAmong base (node ∷ older) i d e = MatchBool (i == length older) (NodeMean
 abbrev pub Means : Relation → List PlainNode → Relation
 Means base nodes i d e = MeansAmong base (reverse nodes) i d e
 
--- what outcomes do whose expressions are these nodes, over a test for the outcomes under them
-abbrev pub ByNodes : RelationTest → List PlainNode → (ℕ → ℕ) → Relation
-ByNodes test nodes node_of o d e = Means (By test) nodes (node_of o) d e
+-- What outcomes do, as data over which a law may range: a test says it, or nodes over a test do, with the node of each
+-- outcome; an outcome that has none is gone.
+pub data Meaning : Type 0 where
+  ByTest : RelationTest → Meaning
+  ByNodes : RelationTest → List PlainNode → (ℕ → Option ℕ) → Meaning
+
+-- the relation of a meaning
+abbrev pub Relates : Meaning → Relation
+Relates (ByTest test) o d e = By test o d e
+Relates (ByNodes test nodes node_of) o d e = MatchOption (node_of o) ⊥ (λ node. Means (By test) nodes node d e)
 
 -- Each outcome under a node has P, where `older` says so of the nodes before it.
 abbrev pub NodeBases : (ℕ → Type 0) → (ℕ → Type 0) → PlainNode → Type 0
@@ -60,3 +67,7 @@ BasesAmong P (node ∷ older) i = MatchBool (i == length older) (NodeBases P (Ba
 -- Each outcome under node i has P, of nodes in their order.
 abbrev pub EachBase : (ℕ → Type 0) → List PlainNode → ℕ → Type 0
 EachBase P nodes i = BasesAmong P (reverse nodes) i
+
+-- Each outcome among the nodes has P.
+abbrev pub AllBases : (ℕ → Type 0) → List PlainNode → Type 0
+AllBases P nodes = (i o : ℕ) → slice_get nodes i ≡ Some (Base o) → P o

@@ -1,7 +1,7 @@
 -- Which joint data a run leads to, from which.
-use Rattle.std.specs.Prelude.{◌≡◌, ℕ, Bool, List, [], ◌∷◌, ◌++◌, IsTrue}
+use Rattle.std.specs.Prelude.{◌≡◌, ℕ, Bool, List, [], ◌∷◌, ◌++◌, map, IsTrue, ⊤}
 use Rattle.nego_model.specs.Negotiation.{Negotiation}
-use Rattle.nego_model.specs.Occurring.{Occurrence, IsComplete}
+use Rattle.nego_model.specs.Occurring.{Occurrence, IsRun, IsComplete}
 
 -- what outcomes do to joint data: the outcome, the data before and the data after
 abbrev pub Relation : Type 1
@@ -15,23 +15,36 @@ RelationTest = ℕ → ℕ → ℕ → Bool
 abbrev pub By : RelationTest → Relation
 By test o d e = IsTrue (test o d e)
 
--- The data begin behind d, one behind each entry, and each entry's outcome relates the data before it to those behind it.
-abbrev pub Along : Relation → List Occurrence → ℕ → List ℕ → Type 0
-Along relation [] d [] = Unit {0}
-Along relation [] d (e ∷ behind) = ⊥
-Along relation (step ∷ steps) d [] = ⊥
-Along relation (step ∷ steps) d (e ∷ behind) = relation step.1 d e × Along relation steps e behind
+-- an entry: an occurrence, and the joint data after it
+pub record Entry : Type 0 where
+  pub step : Occurrence
+  pub joint : ℕ
 
--- the last data, of those that begin with d
-abbrev pub last_of : ℕ → List ℕ → ℕ
-last_of d [] = d
-last_of d (e ∷ behind) = last_of e behind
+-- the occurrences of entries
+abbrev pub steps_of : List Entry → List Occurrence
+steps_of entries = map (λ entry. entry.step) entries
 
--- Some data along the run lead from d to e.
+-- Each entry's outcome relates the data before it to the data after it; before the first entry they are d.
+abbrev pub AreRelated : Relation → ℕ → List Entry → Type 0
+AreRelated relation d [] = ⊤
+AreRelated relation d (entry ∷ entries) = relation entry.step.1 d entry.joint × AreRelated relation entry.joint entries
+
+-- the data after entries, before which they are d
+abbrev pub joint_after : ℕ → List Entry → ℕ
+joint_after d [] = d
+joint_after d (entry ∷ entries) = joint_after entry.joint entries
+
+-- A history: its occurrences are a run, and its data, which begin with the start, are related entry by entry.
+pub record IsHistory (nego : Negotiation) (relation : Relation) (start : ℕ) (history : List Entry) : Type 0 where
+  pub run : IsRun nego (steps_of history)
+  pub related : AreRelated relation start history
+
+-- Some data along the occurrences lead from d to e.
 pub record Joins (relation : Relation) (run : List Occurrence) (d e : ℕ) : Type 0 where
-  pub behind : List ℕ
-  pub along : Along relation run d behind
-  pub ends : last_of d behind ≡ e
+  pub entries : List Entry
+  pub occurrences : steps_of entries ≡ run
+  pub related : AreRelated relation d entries
+  pub ends : joint_after d entries ≡ e
 
 -- The last entry is of this atom and has this outcome.
 abbrev pub EndsWith : List Occurrence → Occurrence → Type 0

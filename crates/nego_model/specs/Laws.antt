@@ -1,13 +1,15 @@
 -- Laws over the definitions, each proved as the clause of a public function.
 use Rattle.std.specs.Prelude.{◌≡◌, ◌↔◌, ℕ, ◌<◌, List, [], ◌∷◌, ◌++◌, length, Some}
 use Rattle.nego_data.specs.Data.{data_count}
+use Rattle.nego_data.specs.Locality.{AgreeOn}
 use Rattle.nego_model.specs.Negotiation.{Negotiation, IsNegotiation, IsDeterministic}
 use Rattle.nego_model.specs.Occurring.{PlainMarking, Occurrence, ready, after, leaves, opening_marking, IsComplete}
-use Rattle.nego_model.specs.Projection.{AreApart, projection, ready_behind}
-use Rattle.nego_model.specs.Locality.{IsLocal}
-use Rattle.nego_model.specs.Joining.{RelationTest, By, Joins, EndsWith, Runs}
+use Rattle.nego_model.specs.Joining.{Relation, RelationTest, By, Entry, steps_of, AreRelated, Joins, EndsWith, Runs}
+use Rattle.nego_model.specs.Projection.{AreApart, projection, own_entries, ready_behind}
 use Rattle.nego_model.specs.Reaching.{EndsAtLast}
-use Rattle.nego_model.specs.Expression.{PlainNode, Means, ByNodes}
+use Rattle.nego_model.specs.Acyclic.{IsForwardOrder, IsRankedBy}
+use Rattle.nego_model.specs.Locality.{IsLocal}
+use Rattle.nego_model.specs.Expression.{PlainNode, Means, Meaning, Relates}
 
 -- A complete run isn't empty, and its last entry is of the last atom.
 abbrev pub CompleteRunsEndWithTheLastAtom : Type 0
@@ -15,14 +17,8 @@ CompleteRunsEndWithTheLastAtom = (nego : Negotiation) (run : List Occurrence) �
 
 -- Two runs, one after the other, join what they join through some data between.
 abbrev pub JoinsThroughBetween : Type 0
-JoinsThroughBetween = (test : RelationTest) (front rest : List Occurrence) (d e : ℕ) →
-    Joins (By test) (front ++ rest) d e ↔ ((c : ℕ) × Joins (By test) front d c × Joins (By test) rest c e)
-
--- The same where the outcomes' relations are the meanings of expressions.
-abbrev pub ExpressionsJoinThroughBetween : Type 0
-ExpressionsJoinThroughBetween = (test : RelationTest) (nodes : List PlainNode) (node_of : ℕ → ℕ) (front rest : List Occurrence) (d e : ℕ) →
-    Joins (ByNodes test nodes node_of) (front ++ rest) d e
-    ↔ ((c : ℕ) × Joins (ByNodes test nodes node_of) front d c × Joins (ByNodes test nodes node_of) rest c e)
+JoinsThroughBetween = (meaning : Meaning) (front rest : List Occurrence) (d e : ℕ) →
+    Joins (Relates meaning) (front ++ rest) d e ↔ ((c : ℕ) × Joins (Relates meaning) front d c × Joins (Relates meaning) rest c e)
 
 -- A node that is added at the end changes the meaning of no other.
 abbrev pub OlderNodesKeepTheirMeaning : Type 0
@@ -31,13 +27,8 @@ OlderNodesKeepTheirMeaning = (test : RelationTest) (nodes : List PlainNode) (nod
 
 -- In a deterministic negotiation a complete run is a way to everyone at the last atom, and one outcome of it.
 abbrev pub CompleteRunsPassEveryoneAtTheLastAtom : Type 0
-CompleteRunsPassEveryoneAtTheLastAtom = (nego : Negotiation) (test : RelationTest) (f d e : ℕ) → IsNegotiation nego → IsDeterministic nego →
-    Runs nego (By test) f d e ↔ EndsAtLast nego (By test) f d e
-
--- The same where the outcomes' relations are the meanings of expressions.
-abbrev pub CompleteRunsOfExpressionsPassEveryoneAtTheLastAtom : Type 0
-CompleteRunsOfExpressionsPassEveryoneAtTheLastAtom = (nego : Negotiation) (test : RelationTest) (nodes : List PlainNode) (node_of : ℕ → ℕ) (f d e : ℕ) → IsNegotiation nego → IsDeterministic nego →
-    Runs nego (ByNodes test nodes node_of) f d e ↔ EndsAtLast nego (ByNodes test nodes node_of) f d e
+CompleteRunsPassEveryoneAtTheLastAtom = (nego : Negotiation) (meaning : Meaning) (f d e : ℕ) → IsNegotiation nego → IsDeterministic nego →
+    Runs nego (Relates meaning) f d e ↔ EndsAtLast nego (Relates meaning) f d e
 
 -- Two occurrences that a marking allows, of atoms without a common party, happen in each order and leave the same.
 abbrev pub StepsApartCommute : Type 0
@@ -47,15 +38,9 @@ StepsApartCommute = (nego : Negotiation) (marking one two : PlainMarking) (step 
 
 -- They join the same joint data in each order, where relations read and change their parties' values alone.
 abbrev pub StepsApartJoinTheSame : Type 0
-StepsApartJoinTheSame = (nego : Negotiation) (sizes : List ℕ) (test : RelationTest) (marking one two : PlainMarking) (step step' : Occurrence) (d e : ℕ) → IsLocal nego sizes (By test) →
+StepsApartJoinTheSame = (nego : Negotiation) (sizes : List ℕ) (meaning : Meaning) (marking one two : PlainMarking) (step step' : Occurrence) (d e : ℕ) → IsLocal nego sizes (Relates meaning) →
     AreApart (nego.parties step.0) (nego.parties step'.0) → after nego marking step ≡ Some one → after nego marking step' ≡ Some two → d < data_count sizes →
-    Joins (By test) (step ∷ step' ∷ []) d e ↔ Joins (By test) (step' ∷ step ∷ []) d e
-
--- The same where the outcomes' relations are the meanings of expressions.
-abbrev pub ExpressionsApartJoinTheSame : Type 0
-ExpressionsApartJoinTheSame = (nego : Negotiation) (sizes : List ℕ) (test : RelationTest) (nodes : List PlainNode) (node_of : ℕ → ℕ) (marking one two : PlainMarking) (step step' : Occurrence) (d e : ℕ) →
-    IsLocal nego sizes (ByNodes test nodes node_of) → AreApart (nego.parties step.0) (nego.parties step'.0) → after nego marking step ≡ Some one → after nego marking step' ≡ Some two → d < data_count sizes →
-    Joins (ByNodes test nodes node_of) (step ∷ step' ∷ []) d e ↔ Joins (ByNodes test nodes node_of) (step' ∷ step ∷ []) d e
+    Joins (Relates meaning) (step ∷ step' ∷ []) d e ↔ Joins (Relates meaning) (step' ∷ step ∷ []) d e
 
 -- Two neighbours without a common party may change places: the same is left.
 abbrev pub NeighboursChangePlaces : Type 0
@@ -64,15 +49,23 @@ NeighboursChangePlaces = (nego : Negotiation) (marking left : PlainMarking) (fro
 
 -- Then what is joined stays, where relations read and change their parties' values alone.
 abbrev pub NeighboursKeepJoinedData : Type 0
-NeighboursKeepJoinedData = (nego : Negotiation) (sizes : List ℕ) (test : RelationTest) (marking left : PlainMarking) (front rest : List Occurrence) (step step' : Occurrence) (d e : ℕ) → IsLocal nego sizes (By test) →
+NeighboursKeepJoinedData = (nego : Negotiation) (sizes : List ℕ) (meaning : Meaning) (marking left : PlainMarking) (front rest : List Occurrence) (step step' : Occurrence) (d e : ℕ) → IsLocal nego sizes (Relates meaning) →
     AreApart (nego.parties step.0) (nego.parties step'.0) → d < data_count sizes → leaves nego marking (front ++ step ∷ step' ∷ rest) ≡ Some left →
-    Joins (By test) (front ++ step ∷ step' ∷ rest) d e → Joins (By test) (front ++ step' ∷ step ∷ rest) d e
+    Joins (Relates meaning) (front ++ step ∷ step' ∷ rest) d e → Joins (Relates meaning) (front ++ step' ∷ step ∷ rest) d e
 
--- The same where the outcomes' relations are the meanings of expressions.
-abbrev pub NeighboursKeepWhatExpressionsJoin : Type 0
-NeighboursKeepWhatExpressionsJoin = (nego : Negotiation) (sizes : List ℕ) (test : RelationTest) (nodes : List PlainNode) (node_of : ℕ → ℕ) (marking left : PlainMarking) (front rest : List Occurrence) (step step' : Occurrence) (d e : ℕ) →
-    IsLocal nego sizes (ByNodes test nodes node_of) → AreApart (nego.parties step.0) (nego.parties step'.0) → d < data_count sizes → leaves nego marking (front ++ step ∷ step' ∷ rest) ≡ Some left →
-    Joins (ByNodes test nodes node_of) (front ++ step ∷ step' ∷ rest) d e → Joins (ByNodes test nodes node_of) (front ++ step' ∷ step ∷ rest) d e
+-- Two neighbouring entries change places: with other data between the two all stays related, and the parties of each
+-- have after it what they had.
+pub record ChangePlaces (nego : Negotiation) (sizes : List ℕ) (relation : Relation) (d : ℕ) (front : List Entry) (one two : Entry) (rest : List Entry) : Type 0 where
+  pub between : ℕ
+  pub related : AreRelated relation d (front ++ record { step = two.step; joint = between } ∷ record { step = one.step; joint = two.joint } ∷ rest)
+  pub keeps_first : AgreeOn sizes (nego.parties one.step.0) one.joint two.joint
+  pub keeps_second : AgreeOn sizes (nego.parties two.step.0) two.joint between
+
+-- So do neighbouring entries of a history, whose atoms have no common party.
+abbrev pub NeighboursKeepEntries : Type 0
+NeighboursKeepEntries = (nego : Negotiation) (sizes : List ℕ) (meaning : Meaning) (marking left : PlainMarking) (d : ℕ) (front rest : List Entry) (one two : Entry) → IsLocal nego sizes (Relates meaning) →
+    AreApart (nego.parties one.step.0) (nego.parties two.step.0) → d < data_count sizes → leaves nego marking (steps_of (front ++ one ∷ two ∷ rest)) ≡ Some left →
+    AreRelated (Relates meaning) d (front ++ one ∷ two ∷ rest) → ChangePlaces nego sizes (Relates meaning) d front one two rest
 
 -- Then each agent sees the same.
 abbrev pub NeighboursKeepProjections : Type 0
@@ -88,3 +81,11 @@ ReadinessFollowsFromTheProjection = (nego : Negotiation) (run : List Occurrence)
 abbrev pub SameProjectionsLeaveTheSame : Type 0
 SameProjectionsLeaveTheSame = (nego : Negotiation) (one two : List Occurrence) (left left' : PlainMarking) → leaves nego (opening_marking nego) one ≡ Some left → leaves nego (opening_marking nego) two ≡ Some left' →
     ((a : ℕ) → a < nego.agents → projection nego a one ≡ projection nego a two) → left ≡ left'
+
+-- The occurrences of an agent's own entries of a history are the projection of the history's run.
+abbrev pub OwnEntriesProject : Type 0
+OwnEntriesProject = (nego : Negotiation) (a : ℕ) (history : List Entry) → steps_of (own_entries nego a history) ≡ projection nego a (steps_of history)
+
+-- A forward order ranks its negotiation.
+abbrev pub ForwardOrdersRank : Type 0
+ForwardOrdersRank = (nego : Negotiation) (order : List ℕ) → IsNegotiation nego → IsForwardOrder nego order → IsRankedBy nego order

@@ -3,7 +3,7 @@ use Rattle.std.specs.Prelude.{◌≡◌, ◌↔◌, ℕ, ◌<◌, List, length, 
 use Rattle.std.specs.List.{All}
 use Rattle.nego_model.specs.Joining.{By, Runs}
 use Rattle.nego_model.specs.Occurring.{IsSound}
-use Rattle.nego_model.specs.Expression.{PlainNode, IsNodeList, Means}
+use Rattle.nego_model.specs.Expression.{PlainNode, IsNodeList, Means, AllBases}
 use Rattle.nego_model.specs.Diagram.{PlainDiagram, negotiation_of, relation_of, outcome_name}
 use Rattle.nego_data.specs.Data.{data_count}
 
@@ -17,9 +17,11 @@ pub record PlainSummary : Type 0 where
   pub nodes : List PlainNode
   pub finals : List PlainFinal
 
--- Each child of a node has a smaller number than the node, and each final outcome has a node that is there.
-pub record IsFormed (summary : PlainSummary) : Type 0 where
+-- Each child of a node has a smaller number than the node, each outcome among the nodes is below the count of outcomes,
+-- and each final outcome has a node that is there.
+pub record IsFormed (outcomes : ℕ) (summary : PlainSummary) : Type 0 where
   pub below : IsNodeList summary.nodes
+  pub bases : AllBases (λ o. o < outcomes) summary.nodes
   pub there : All (λ outcome. outcome.node < length summary.nodes) summary.finals
 
 -- the outcomes of the last atom, in order
@@ -30,7 +32,7 @@ final_outcomes diagram = (negotiation_of diagram).outcomes diagram.last
 -- their order; and each final outcome's node relates exactly the data that some complete run with this last
 -- outcome joins.
 pub record Tells (summary : PlainSummary) (diagram : PlainDiagram) : Type 0 where
-  pub formed : IsFormed summary
+  pub formed : IsFormed (length diagram.outcomes) summary
   pub sound : IsSound (negotiation_of diagram)
   pub named : map (λ outcome. outcome.name) summary.finals ≡ map (outcome_name diagram) (final_outcomes diagram)
   pub each : (k d e : ℕ) → k < length (final_outcomes diagram) → d < data_count diagram.sizes → e < data_count diagram.sizes →

@@ -1,6 +1,6 @@
 //! Laws over the definitions. Each function does nothing; its clause is the law.
 
-ghost use Rattle.nego_model.specs.Laws.{CompleteRunsEndWithTheLastAtom, JoinsThroughBetween, ExpressionsJoinThroughBetween, OlderNodesKeepTheirMeaning, CompleteRunsPassEveryoneAtTheLastAtom, CompleteRunsOfExpressionsPassEveryoneAtTheLastAtom, StepsApartCommute, StepsApartJoinTheSame, ExpressionsApartJoinTheSame, NeighboursChangePlaces, NeighboursKeepJoinedData, NeighboursKeepWhatExpressionsJoin, NeighboursKeepProjections, ReadinessFollowsFromTheProjection, SameProjectionsLeaveTheSame};
+ghost use Rattle.nego_model.specs.Laws.{CompleteRunsEndWithTheLastAtom, JoinsThroughBetween, OlderNodesKeepTheirMeaning, CompleteRunsPassEveryoneAtTheLastAtom, StepsApartCommute, StepsApartJoinTheSame, NeighboursChangePlaces, NeighboursKeepJoinedData, NeighboursKeepEntries, NeighboursKeepProjections, ReadinessFollowsFromTheProjection, SameProjectionsLeaveTheSame, OwnEntriesProject, ForwardOrdersRank};
 
 /// A complete run isn't empty, and its last entry is of the last atom.
 pub fn complete_runs_end_with_the_last_atom()
@@ -9,8 +9,7 @@ pub fn complete_runs_end_with_the_last_atom()
 
 /// Two runs, one after the other, join what they join through some data between.
 pub fn joins_through_between()
-    ensures outcomes { JoinsThroughBetween }
-    ensures expressions { ExpressionsJoinThroughBetween }
+    ensures { JoinsThroughBetween }
 {}
 
 /// A node that is added at the end changes the meaning of no other.
@@ -20,29 +19,35 @@ pub fn older_nodes_keep_their_meaning()
 
 /// In a deterministic negotiation a complete run is a way to everyone at the last atom, and one outcome of it.
 pub fn complete_runs_pass_everyone_at_the_last_atom()
-    ensures outcomes { CompleteRunsPassEveryoneAtTheLastAtom }
-    ensures expressions { CompleteRunsOfExpressionsPassEveryoneAtTheLastAtom }
+    ensures { CompleteRunsPassEveryoneAtTheLastAtom }
 {}
 
 /// Two occurrences that a marking allows, of atoms without a common party, happen in each order and leave the same
 /// marking. They join the same data where each outcome acts on its parties' data alone.
 pub fn steps_apart_commute()
     ensures marking { StepsApartCommute }
-    ensures outcomes { StepsApartJoinTheSame }
-    ensures expressions { ExpressionsApartJoinTheSame }
+    ensures joined { StepsApartJoinTheSame }
 {}
 
 /// Two neighbours in a run, of atoms without a common party, may change places: the same marking is left, and each agent
-/// sees the same. The same data are joined where each outcome acts on its parties' data alone.
+/// sees the same. Where each outcome acts on its parties' data alone, the same data are joined; of the data along the
+/// run those between the two change, and the parties of each have after it what they had.
 pub fn neighbours_apart_change_places()
     ensures marking { NeighboursChangePlaces }
-    ensures outcomes { NeighboursKeepJoinedData }
-    ensures expressions { NeighboursKeepWhatExpressionsJoin }
+    ensures joined { NeighboursKeepJoinedData }
+    ensures entries { NeighboursKeepEntries }
     ensures projections { NeighboursKeepProjections }
 {}
 
-/// What an agent is ready for after a run follows from the run's projection on it.
+/// What an agent is ready for after a run follows from the run's projection on it, which is that of a history's own
+/// entries.
 pub fn readiness_follows_from_the_projection()
     ensures ready { ReadinessFollowsFromTheProjection }
     ensures marking { SameProjectionsLeaveTheSame }
+    ensures entries { OwnEntriesProject }
+{}
+
+/// A forward order gives ranks: each edge leads to an atom of a greater rank.
+pub fn forward_orders_rank()
+    ensures { ForwardOrdersRank }
 {}
