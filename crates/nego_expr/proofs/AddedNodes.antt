@@ -7,7 +7,7 @@ use Rattle.std.proofs.lemmas.List.Elements.{All-nil, All-cons, All-head, All-tai
 use Rattle.std.specs.List.{All}
 use Rattle.nego_model.specs.Joining.{Relation, RelationTest, By}
 use Rattle.nego_model.specs.Expression.{PlainNode, Base, Join, Then, Star, children, IsNodeList, NodeMeans, Means, NodeBases, EachBase}
-use Rattle.nego_model.proofs.Expressions.{Means-append, Means-at, EachBase-older, EachBase-newest, split_at}
+use Rattle.nego_model.proofs.expressions.Nodes.{Means-append, Means-at, EachBase-older, EachBase-newest, split_at}
 use Rattle.nego_expr.specs.Work.{WorkOutcome, PlainWork, outcome_at, ByWork}
 use Rattle.nego_expr.specs.Use.{nodes_then}
 use Rattle.nego_expr.proofs.Alive.{ByWork-found}

@@ -7,7 +7,7 @@ use Rattle.std.proofs.lemmas.List.Elements.{All-nil}
 use Rattle.std.specs.List.{All, range_with_len}
 use Rattle.nego_model.specs.Joining.{Relation}
 use Rattle.nego_model.specs.Expression.{PlainNode, Base, children, IsNodeList, Means, EachBase}
-use Rattle.nego_model.proofs.Expressions.{Means-at, EachBase-older, EachBase-newest}
+use Rattle.nego_model.proofs.expressions.Nodes.{Means-at, EachBase-older, EachBase-newest}
 
 -- the outcomes below a count, each as a node
 abbrev pub base_nodes : ℕ → List PlainNode

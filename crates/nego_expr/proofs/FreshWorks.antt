@@ -16,7 +16,7 @@ use Rattle.nego_model.specs.Expression.{EachBase}
 use Rattle.nego_model.specs.Diagram.{PlainOutcome, PlainDiagram, negotiation_of, relation_of, parties_of, nexts_of, outcome_name, IsDiagram}
 use Rattle.nego_model.specs.Summary.{final_outcomes}
 use Rattle.nego_base.proofs.Members.{is_in-range_zero}
-use Rattle.nego_model.proofs.Joined.{Joins-wider}
+use Rattle.nego_model.proofs.occurrence.Joined.{Joins-wider}
 use Rattle.nego_expr.specs.Work.{WorkOutcome, IsWork, outcome_at, sent_to, work_parties, work_outcomes, negotiation_of_work, ByWork}
 use Rattle.nego_expr.specs.Fresh.{atoms_from, outcomes_of, fresh_work, Stands, FreshWorksStand, HasTheRuns, FreshWorksHaveTheRuns}
 use Rattle.nego_expr.proofs.Alive.{ByWork-found, ByWork-none}

@@ -7,8 +7,8 @@ use Rattle.nego_data.specs.Locality.{ActsOn}
 use Rattle.nego_data.proofs.Acting.{ActsOn-more, ActsOn-same}
 use Rattle.nego_model.specs.Joining.{RelationTest, By}
 use Rattle.nego_model.specs.Expression.{PlainNode, Base, Join, Then, Star, Means, NodeBases, BasesAmong, EachBase}
-use Rattle.nego_model.proofs.Expressions.{EachBase-weaker}
-use Rattle.nego_model.proofs.Acting.{Means-acts}
+use Rattle.nego_model.proofs.expressions.Nodes.{EachBase-weaker}
+use Rattle.nego_model.proofs.expressions.Acting.{Means-acts}
 use Rattle.nego_expr.specs.Work.{WorkOutcome, PlainWork, outcome_at, work_parties, ByWork}
 use Rattle.nego_expr.specs.Local.{WorksAreLocal}
 use Rattle.nego_expr.proofs.Alive.{ByWork-found}

@@ -8,11 +8,11 @@ use Rattle.nego_model.specs.Occurring.{PlainMarking, Occurrence, enables, after,
 use Rattle.nego_model.specs.Joining.{Relation, EndsWith, Joins, Runs}
 use Rattle.nego_model.specs.Reaching.{all_at_last}
 use Rattle.nego_base.proofs.Members.{is_in_none, is_in_single, some_member}
-use Rattle.nego_model.proofs.Markings.{enables-atom, enables-party, ready-replicate}
-use Rattle.nego_model.proofs.Steps.{after-some, after-outcome, leaves-first, leaves_one, run_leaves}
-use Rattle.nego_model.proofs.Joined.{Joins_one, related_from_one}
-use Rattle.nego_model.proofs.CompleteRuns.{opening_not_final}
-use Rattle.nego_model.proofs.Ways.{all_at_last-enables, after_all_at_last}
+use Rattle.nego_model.proofs.occurrence.Markings.{enables-atom, enables-party, ready-replicate}
+use Rattle.nego_model.proofs.occurrence.Steps.{after-some, after-outcome, leaves-first, leaves_one, run_leaves}
+use Rattle.nego_model.proofs.occurrence.Joined.{Joins_one, related_from_one}
+use Rattle.nego_model.proofs.occurrence.CompleteRuns.{opening_not_final}
+use Rattle.nego_model.proofs.occurrence.Ways.{all_at_last-enables, after_all_at_last}
 use Rattle.nego_expr.specs.Work.{WorkAtom, PlainWork, IsWork, negotiation_of_work, ByWork}
 use Rattle.nego_expr.specs.Finish.{OneAtomWorksAreSound}
 

@@ -11,7 +11,7 @@ use Rattle.nego_model.specs.Negotiation.{Negotiation, IsNegotiation, IsOutcome}
 use Rattle.nego_model.specs.Joining.{RelationTest, By}
 use Rattle.nego_model.specs.Expression.{PlainNode, Then, Star, IsNodeList, IsPath, Means, EachBase, children}
 use Rattle.nego_base.proofs.Members.{all_at, is_in-without, rises-without, without-other, length-without}
-use Rattle.nego_model.proofs.Expressions.{IsPath-wider, Means-newest, Means-append, EachBase-newest, EachBase-weaker}
+use Rattle.nego_model.proofs.expressions.Nodes.{IsPath-wider, Means-newest, Means-append, EachBase-newest, EachBase-weaker}
 use Rattle.nego_expr.specs.Work.{WorkOutcome, PlainWork, outcome_at, work_parties, work_outcomes, sent_to, negotiation_of_work, ByWork, IsWork}
 use Rattle.nego_expr.specs.Use.{same_target, outcomes_at, nodes_then, without_outcome, iterates, can_iterate, iterated_of, iterated}
 use Rattle.nego_expr.specs.Keeps.{KeepsLocally}

@@ -13,16 +13,16 @@ use Rattle.nego_model.specs.Expression.{IsPath}
 use Rattle.nego_model.specs.Reaching.{all_at_last, Reaches, EndsAtLast}
 use Rattle.nego_model.specs.Locality.{IsLocal}
 use Rattle.nego_model.specs.Projection.{AreApart}
-use Rattle.nego_model.proofs.Markings.{length-moved, ready-moved_party, ready-moved_other, same_markings, enables-party}
-use Rattle.nego_model.proofs.Steps.{after-some, after-outcome, after_from}
-use Rattle.nego_model.proofs.Reached.{Leads, Leads-itself, Leads_one, Leads-from_reaches, Reaches-itself, Reaches_one, Reaches_first, Reaches_then, reached_by_last}
-use Rattle.nego_model.proofs.Proper.{IsProper, IsSingle, opening-proper, opening-single, after-proper, after-single, ready_alone}
-use Rattle.nego_model.proofs.Expressions.{IsPath_one, IsPath_through}
-use Rattle.nego_model.proofs.Gathered.{all_ready-enabled}
-use Rattle.nego_model.proofs.Commuting.{enabled_behind, enabled_apart, Reaches-below}
-use Rattle.nego_model.proofs.Acting.{ActsOn-star}
-use Rattle.nego_model.proofs.Ways.{runs_pass_all_at_last, Runs-from_all_at_last}
-use Rattle.nego_model.proofs.Simulating.{SameAtoms, SameAtoms-turned, same-opening, same-all_at_last, same-after, Lasts, Lasts-led, StepsLed, StepsReached, Sound-same, Runs-same}
+use Rattle.nego_model.proofs.occurrence.Markings.{length-moved, ready-moved_party, ready-moved_other, same_markings, enables-party}
+use Rattle.nego_model.proofs.occurrence.Steps.{after-some, after-outcome, after_from}
+use Rattle.nego_model.proofs.occurrence.Reached.{Leads, Leads-itself, Leads_one, Leads-from_reaches, Reaches-itself, Reaches_one, Reaches_first, Reaches_then, reached_by_last}
+use Rattle.nego_model.proofs.occurrence.Proper.{IsProper, IsSingle, opening-proper, opening-single, after-proper, after-single, ready_alone}
+use Rattle.nego_model.proofs.expressions.Nodes.{IsPath_one, IsPath_through}
+use Rattle.nego_model.proofs.occurrence.Gathered.{all_ready-enabled}
+use Rattle.nego_model.proofs.occurrence.Commuting.{enabled_behind, enabled_apart, Reaches-below}
+use Rattle.nego_model.proofs.expressions.Acting.{ActsOn-star}
+use Rattle.nego_model.proofs.occurrence.Ways.{runs_pass_all_at_last, Runs-from_all_at_last}
+use Rattle.nego_model.proofs.simulation.Simulations.{SameAtoms, SameAtoms-turned, same-opening, same-all_at_last, same-after, Lasts, Lasts-led, StepsLed, StepsReached, Sound-same, Runs-same}
 use Rattle.nego_iterate.proofs.Iterates.{Iterates}
 
 -- What the second negotiation reaches where the atom n is enabled, and then the outcome o any number of times.

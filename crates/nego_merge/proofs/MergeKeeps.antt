@@ -14,10 +14,10 @@ use Rattle.nego_model.specs.Joining.{RelationTest, By}
 use Rattle.nego_model.specs.Expression.{PlainNode, Join, EachBase, children}
 use Rattle.nego_model.specs.Reaching.{Reaches}
 use Rattle.nego_base.proofs.Members.{is_in_none, all_at, some_member, is_in-without, rises-without, without-other}
-use Rattle.nego_model.proofs.Steps.{after-outcome}
-use Rattle.nego_model.proofs.Expressions.{Means-newest, EachBase-newest, EachBase-weaker}
-use Rattle.nego_model.proofs.Reached.{Leads_one, Reaches_one}
-use Rattle.nego_model.proofs.Simulating.{SameAtoms, SameAtoms-turned, same-after, Anywhere, StepsLed, StepsReached, Sound-same, Runs-same}
+use Rattle.nego_model.proofs.occurrence.Steps.{after-outcome}
+use Rattle.nego_model.proofs.expressions.Nodes.{Means-newest, EachBase-newest, EachBase-weaker}
+use Rattle.nego_model.proofs.occurrence.Reached.{Leads_one, Reaches_one}
+use Rattle.nego_model.proofs.simulation.Simulations.{SameAtoms, SameAtoms-turned, same-after, Anywhere, StepsLed, StepsReached, Sound-same, Runs-same}
 use Rattle.nego_expr.specs.Work.{WorkOutcome, PlainWork, outcome_at, work_parties, work_outcomes, sent_to, negotiation_of_work, ByWork, IsWork}
 use Rattle.nego_expr.specs.Use.{same_target, merges, can_merge, united, without_outcome, merged_of, merged}
 use Rattle.nego_expr.specs.Keeps.{Keeps}

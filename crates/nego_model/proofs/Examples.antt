@@ -15,10 +15,10 @@ use Rattle.nego_data.specs.Cases.{relates, rows_of}
 use Rattle.nego_model.specs.Diagram.{PlainDiagram, negotiation_of}
 use Rattle.nego_model.specs.Projection.{projection, ready_behind}
 use Rattle.nego_base.proofs.Members.{is_in_single, is_in-cases}
-use Rattle.nego_model.proofs.Markings.{ready-replicate, enables-atom, enables-party}
-use Rattle.nego_model.proofs.Steps.{after-some, leaves-first}
-use Rattle.nego_model.proofs.Proper.{ready_leaves}
-use Rattle.nego_model.proofs.OneAtom.{one_atom, one_base_tells}
+use Rattle.nego_model.proofs.occurrence.Markings.{ready-replicate, enables-atom, enables-party}
+use Rattle.nego_model.proofs.occurrence.Steps.{after-some, leaves-first}
+use Rattle.nego_model.proofs.occurrence.Proper.{ready_leaves}
+use Rattle.nego_model.proofs.diagrams.OneAtom.{one_atom, one_base_tells}
 
 -- sizes 4, 4, 2 and 2: the first agent is the most significant
 split_numbers : split (4 ∷ 4 ∷ 2 ∷ 2 ∷ []) 37 ≡ 2 ∷ 1 ∷ 0 ∷ 1 ∷ []

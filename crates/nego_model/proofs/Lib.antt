@@ -1,30 +1,7 @@
-pub mod Markings
-pub mod Steps
-pub mod Joined
-pub mod Reached
-pub mod CompleteRuns
-pub mod Expressions
-pub mod Proper
-pub mod Ways
-pub mod Gathered
-pub mod Simulating
-pub mod Commuting
-pub mod Exchanging
-pub mod Projections
-pub mod Acting
-pub mod Alike
-pub mod Diagrams
-pub mod OneAtom
-pub mod OneCase
-pub mod Readers
-pub mod Undetermined
-pub mod Making
-pub mod Kept
-pub mod Followed
-mod Examples
+pub mod occurrence
+pub mod expressions
+pub mod simulation
+pub mod diagrams
+pub mod completeness
 pub mod PairLaws
-pub mod OutcomeNumbers
-pub mod Ranks
-pub mod Ahead
-pub mod Branching
-pub mod Closable
+mod Examples

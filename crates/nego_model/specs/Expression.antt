@@ -70,4 +70,4 @@ EachBase P nodes i = BasesAmong P (reverse nodes) i
 
 -- Each outcome among the nodes has P.
 abbrev pub AllBases : (ℕ → Type 0) → List PlainNode → Type 0
-AllBases P nodes = (i o : ℕ) → slice_get nodes i ≡ Some (Base o) → P o
+AllBases P nodes = All (NodeBases P (λ i. ⊤)) nodes

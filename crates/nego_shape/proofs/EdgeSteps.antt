@@ -6,8 +6,8 @@ use Rattle.nego_base.proofs.Members.{is_in_none, is_in-with}
 use Rattle.nego_model.specs.Negotiation.{IsOutcome}
 use Rattle.nego_model.specs.Diagram.{PlainDiagram, IsDiagram, negotiation_of, nexts_of}
 use Rattle.nego_model.specs.Acyclic.{IsEdge}
-use Rattle.nego_model.proofs.Diagrams.{same_atom}
-use Rattle.nego_model.proofs.Undetermined.{outcome_below, agent_below}
+use Rattle.nego_model.proofs.diagrams.Negotiations.{same_atom}
+use Rattle.nego_model.proofs.diagrams.Undetermined.{outcome_below, agent_below}
 
 -- Each found atom has an edge to n; and where one of the outcomes so far leads to n, its atom is found.
 pub record FoundSoFar (diagram : PlainDiagram) (n : ℕ) (found : List ℕ) (count : ℕ) : Type 0 where

@@ -8,7 +8,7 @@ use Rattle.std.specs.List.{All, AllPairs, range_with_len}
 use Rattle.std.specs.List.Sorted.{IsNonDecreasingBy}
 use Rattle.nego_model.specs.declared.parts.AtomPart.{AtomPart}
 use Rattle.nego_model.specs.Diagram.{PlainOutcome, outcomes_from}
-use Rattle.nego_model.proofs.OutcomeNumbers.{outcomes_from-append, outcomes_from-all, outcomes_from-none}
+use Rattle.nego_model.proofs.diagrams.OutcomeNumbers.{outcomes_from-append, outcomes_from-all, outcomes_from-none}
 use Rattle.nego_model.proofs.PairLaws.{AllPairs-append, AllPairs-map}
 use Rattle.nego_reader.specs.Content.{Content, AtomContent, OutContent}
 use Rattle.nego_shape.specs.Naming.{PlacedOut, outs_from, outcome_in}

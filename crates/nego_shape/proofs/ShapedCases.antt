@@ -10,7 +10,7 @@ use Rattle.nego_data.specs.Cases.{rows_of}
 use Rattle.nego_data.specs.CaseForm.{NamesOnly, AssignsOnce, AssignsBelow, AreAmong, operand_agents, term_agents}
 use Rattle.nego_data.proofs.Tables.{rows_of-table}
 use Rattle.nego_data.proofs.CaseRelations.{rows_of-acts, rows_of-some}
-use Rattle.nego_model.proofs.Making.{TableFits}
+use Rattle.nego_model.proofs.diagrams.Conditions.{TableFits}
 use Rattle.nego_model.proofs.PairLaws.{AllPairs-cons, AllPairs-head, AllPairs-tail}
 use Rattle.nego_reader.specs.Content.{Content, OutContent, CaseContent, TestContent, SetContent, RightContent, TermContent, Number, Name, AnyTerm, NumberTerm, PlusTerm, MinusTerm}
 use Rattle.nego_shape.specs.Naming.{place_of, agent_names, sizes_in, operand_in, test_in, term_in, set_in, case_in, cases_in}

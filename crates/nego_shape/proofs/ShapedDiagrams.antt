@@ -17,7 +17,7 @@ use Rattle.nego_model.specs.declared.parts.Parts.{Parts}
 use Rattle.nego_model.specs.Diagram.{PlainAtom, PlainOutcome, PlainDiagram, IsDiagram, outcomes_from, parties_of}
 use Rattle.nego_model.specs.Limits.{IsWithinLimits, HasNames, AreInOrder}
 use Rattle.nego_model.specs.Parts.{plain_of, AreParts}
-use Rattle.nego_model.proofs.Making.{AtomFits, OutcomeLeads, HasForm, TableFits, diagram_from_form}
+use Rattle.nego_model.proofs.diagrams.Conditions.{AtomFits, OutcomeLeads, HasForm, TableFits, diagram_from_form}
 use Rattle.nego_model.proofs.PairLaws.{AllPairs-map}
 use Rattle.nego_reader.specs.Content.{Content, AgentContent, AtomContent, OutContent, NextContent}
 use Rattle.nego_shape.specs.Naming.{PlacedOut, place_of, agent_names, atom_names, sizes_in, all_outs, parties_in, parties_at, next_atoms, atom_in, outcome_in, diagram_in}

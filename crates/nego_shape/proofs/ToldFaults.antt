@@ -18,7 +18,7 @@ use Rattle.nego_data.specs.Cases.{covers}
 use Rattle.nego_data.specs.CaseForm.{FitsSize, IsFirstUncovered}
 use Rattle.nego_data.specs.Data.{data_count, split}
 use Rattle.nego_data.specs.Sizes.{HasFault}
-use Rattle.nego_model.proofs.Readers.{mapped_at}
+use Rattle.nego_model.proofs.diagrams.Readers.{mapped_at}
 use Rattle.nego_reader.specs.declared.parsed.Parsed.{Parsed}
 use Rattle.nego_reader.specs.declared.parsed.PAgent.{PAgent}
 use Rattle.nego_reader.specs.declared.parsed.PAtom.{PAtom}

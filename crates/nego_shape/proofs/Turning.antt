@@ -5,7 +5,7 @@ use Rattle.nego_base.proofs.Members.{All-members}
 use Rattle.nego_model.specs.Negotiation.{Negotiation}
 use Rattle.nego_model.specs.Expression.{IsPath}
 use Rattle.nego_model.specs.Acyclic.{IsEdge}
-use Rattle.nego_model.proofs.Expressions.{IsPath_through}
+use Rattle.nego_model.proofs.expressions.Nodes.{IsPath_through}
 use Rattle.nego_shape.specs.Ordering.{IsLeastBehind, WalksBack, IsTurned, IsCycle}
 use Rattle.nego_shape.proofs.ListPlaces.{place_in, reverse-cons}
 

@@ -6,7 +6,7 @@ use Rattle.std.proofs.lemmas.List.Quantifiers.{all_pairs_push}
 use Rattle.nego_base.specs.Members.{is_in}
 use Rattle.nego_model.specs.Negotiation.{Negotiation}
 use Rattle.nego_model.specs.Acyclic.{IsEdge}
-use Rattle.nego_model.proofs.Expressions.{IsPath_one, IsPath_through, IsPath-wider}
+use Rattle.nego_model.proofs.expressions.Nodes.{IsPath_one, IsPath_through, IsPath-wider}
 use Rattle.nego_shape.specs.Ordering.{IsLeft, IsStuck, IsLeastLeft, IsLeastBehind, WalksBack}
 use Rattle.nego_shape.specs.Walks.{IsWalk}
 use Rattle.nego_shape.proofs.ListPlaces.{is_in_at}

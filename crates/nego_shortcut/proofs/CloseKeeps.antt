@@ -14,12 +14,12 @@ use Rattle.nego_model.specs.Joining.{RelationTest, By}
 use Rattle.nego_model.specs.Expression.{PlainNode, Then, IsNodeList, Means, EachBase, children}
 use Rattle.nego_model.specs.Reaching.{all_at_last, Reaches}
 use Rattle.nego_base.proofs.Members.{is_in-head, is_in-cases, is_in_none, is_in_single, all_at, some_member, is_in-filter, is_in-range_zero, rises-filter, all_in-member, all_in-members}
-use Rattle.nego_model.proofs.Steps.{after-outcome}
-use Rattle.nego_model.proofs.Expressions.{Means-append, EachBase-weaker}
-use Rattle.nego_model.proofs.Reached.{Leads, Leads-itself, Leads_one, Leads_through, Reaches_one, reached_by_last}
-use Rattle.nego_model.proofs.Ways.{after_all_at_last, runs_pass_all_at_last, Runs-from_all_at_last, Sound_from_leads}
-use Rattle.nego_model.proofs.Gathered.{all_ready-enables, after_gathered, after_nothing_ready, after_all_sent, all_ready-same}
-use Rattle.nego_model.proofs.Simulating.{Lasts, Lasts-led}
+use Rattle.nego_model.proofs.occurrence.Steps.{after-outcome}
+use Rattle.nego_model.proofs.expressions.Nodes.{Means-append, EachBase-weaker}
+use Rattle.nego_model.proofs.occurrence.Reached.{Leads, Leads-itself, Leads_one, Leads_through, Reaches_one, reached_by_last}
+use Rattle.nego_model.proofs.occurrence.Ways.{after_all_at_last, runs_pass_all_at_last, Runs-from_all_at_last, Sound_from_leads}
+use Rattle.nego_model.proofs.occurrence.Gathered.{all_ready-enables, after_gathered, after_nothing_ready, after_all_sent, all_ready-same}
+use Rattle.nego_model.proofs.simulation.Simulations.{Lasts, Lasts-led}
 use Rattle.nego_expr.specs.Work.{WorkOutcome, PlainWork, outcome_at, work_parties, work_outcomes, sent_to, negotiation_of_work, ByWork, IsWork}
 use Rattle.nego_expr.specs.Use.{same_target, one_sends_all, outcomes_at, nodes_then, can_close, closed_of, closed_by, closed}
 use Rattle.nego_expr.specs.Keeps.{Keeps}

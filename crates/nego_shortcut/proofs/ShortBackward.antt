@@ -5,8 +5,8 @@ use Rattle.nego_model.specs.Negotiation.{Negotiation, IsOutcome}
 use Rattle.nego_model.specs.Occurring.{PlainMarking, Occurrence, after}
 use Rattle.nego_model.specs.Joining.{Relation}
 use Rattle.nego_model.specs.Reaching.{Reaches}
-use Rattle.nego_model.proofs.Steps.{after-outcome}
-use Rattle.nego_model.proofs.Reached.{Reaches-itself, Reaches_then, reached_by_last}
+use Rattle.nego_model.proofs.occurrence.Steps.{after-outcome}
+use Rattle.nego_model.proofs.occurrence.Reached.{Reaches-itself, Reaches_then, reached_by_last}
 use Rattle.nego_shortcut.proofs.Shortens.{Shortens}
 use Rattle.nego_shortcut.proofs.ShortReaches.{ReachesBackward}
 use Rattle.nego_shortcut.proofs.ShortSteps.{kept_before, made_before, start_reached}

@@ -9,7 +9,7 @@ use Rattle.nego_base.specs.Members.{is_in, all_in}
 use Rattle.nego_base.proofs.Members.{is_in_none, in_or_not, some_member, all_in-member, all_in-members}
 use Rattle.nego_model.specs.Negotiation.{IsNegotiation}
 use Rattle.nego_model.specs.Expression.{PlainNode, Then, children, EachBase}
-use Rattle.nego_model.proofs.Expressions.{EachBase-weaker}
+use Rattle.nego_model.proofs.expressions.Nodes.{EachBase-weaker}
 use Rattle.nego_expr.specs.Work.{WorkOutcome, PlainWork, work_parties, work_outcomes, sent_to, negotiation_of_work, IsWork}
 use Rattle.nego_expr.specs.Use.{outcomes_at, nodes_then, targets_through, through, entered_by}
 use Rattle.nego_expr.proofs.AddedNodes.{IsNodeList-append, EachBase-append, EachBase-added, length-nodes_then, node_then, nodes_then-older}

@@ -11,11 +11,11 @@ use Rattle.nego_model.specs.Locality.{IsLocal}
 use Rattle.nego_model.specs.Projection.{AreApart}
 use Rattle.nego_model.specs.Reaching.{Reaches}
 use Rattle.nego_base.proofs.Members.{some_member}
-use Rattle.nego_model.proofs.Markings.{enables-atom, enables-party}
-use Rattle.nego_model.proofs.Steps.{after-some, after-outcome, after_from}
-use Rattle.nego_model.proofs.Proper.{IsSingle, leaves-single}
-use Rattle.nego_model.proofs.Commuting.{enabled_behind, enabled_apart, steps_change_places, Reaches-below}
-use Rattle.nego_model.proofs.Reached.{Reaches-itself, Reaches_then, reached_by_last}
+use Rattle.nego_model.proofs.occurrence.Markings.{enables-atom, enables-party}
+use Rattle.nego_model.proofs.occurrence.Steps.{after-some, after-outcome, after_from}
+use Rattle.nego_model.proofs.occurrence.Proper.{IsSingle, leaves-single}
+use Rattle.nego_model.proofs.occurrence.Commuting.{enabled_behind, enabled_apart, steps_change_places, Reaches-below}
+use Rattle.nego_model.proofs.occurrence.Reached.{Reaches-itself, Reaches_then, reached_by_last}
 use Rattle.nego_shortcut.proofs.Shortens.{Shortens}
 use Rattle.nego_shortcut.proofs.ShortReaches.{IsDue, MayStart, ReachesForward}
 use Rattle.nego_shortcut.proofs.ShortSteps.{after_kept, entered, after_made, start_reached}

@@ -12,14 +12,14 @@ use Rattle.nego_model.specs.Joining.{Relation, Runs}
 use Rattle.nego_model.specs.Locality.{IsLocal}
 use Rattle.nego_model.specs.Reaching.{all_at_last, Reaches}
 use Rattle.nego_base.proofs.Members.{is_in-head, is_in_none, is_in_single, some_member, in_or_not}
-use Rattle.nego_model.proofs.Markings.{ready-moved_party, ready-moved_other, ready-replicate, enables-party, enables_from}
-use Rattle.nego_model.proofs.Steps.{after-some, after_from, length-after, leaves-first, length-run}
-use Rattle.nego_model.proofs.Proper.{IsProper, IsSingle, opening-proper, opening-single, after-single, leaves-proper, leaves-single}
-use Rattle.nego_model.proofs.Commuting.{enables-below, enabled_behind, enabled_apart}
-use Rattle.nego_model.proofs.Reached.{Leads, Leads-itself, Leads_one, Leads_through, Leads-from_reaches, Reaches-from_leads}
-use Rattle.nego_model.proofs.Simulating.{as-enabled}
-use Rattle.nego_model.proofs.Gathered.{all_ready-enabled}
-use Rattle.nego_model.proofs.Ways.{runs_pass_all_at_last, Runs-from_all_at_last, sound_leads, Sound_from_leads}
+use Rattle.nego_model.proofs.occurrence.Markings.{ready-moved_party, ready-moved_other, ready-replicate, enables-party, enables_from}
+use Rattle.nego_model.proofs.occurrence.Steps.{after-some, after_from, length-after, leaves-first, length-run}
+use Rattle.nego_model.proofs.occurrence.Proper.{IsProper, IsSingle, opening-proper, opening-single, after-single, leaves-proper, leaves-single}
+use Rattle.nego_model.proofs.occurrence.Commuting.{enables-below, enabled_behind, enabled_apart}
+use Rattle.nego_model.proofs.occurrence.Reached.{Leads, Leads-itself, Leads_one, Leads_through, Leads-from_reaches, Reaches-from_leads}
+use Rattle.nego_model.proofs.simulation.Simulations.{as-enabled}
+use Rattle.nego_model.proofs.occurrence.Gathered.{all_ready-enabled}
+use Rattle.nego_model.proofs.occurrence.Ways.{runs_pass_all_at_last, Runs-from_all_at_last, sound_leads, Sound_from_leads}
 use Rattle.nego_shortcut.proofs.Shortens.{Shortens}
 use Rattle.nego_shortcut.proofs.ShortReaches.{MayStart, ReachesForward, ReachesBackward}
 

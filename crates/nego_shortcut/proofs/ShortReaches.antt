@@ -6,7 +6,7 @@ use Rattle.nego_model.specs.Negotiation.{Negotiation}
 use Rattle.nego_model.specs.Occurring.{PlainMarking, ready, enables, after}
 use Rattle.nego_model.specs.Joining.{Relation}
 use Rattle.nego_model.specs.Reaching.{Reaches}
-use Rattle.nego_model.proofs.Proper.{IsProper, IsSingle}
+use Rattle.nego_model.proofs.occurrence.Proper.{IsProper, IsSingle}
 
 -- A marking and data that the first negotiation reaches where n is due: the marking enables n, and what any outcome of n
 -- leaves, the second negotiation reaches from the start.

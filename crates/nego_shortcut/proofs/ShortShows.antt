@@ -7,7 +7,7 @@ use Rattle.nego_base.proofs.Members.{is_in-head}
 use Rattle.nego_model.specs.Negotiation.{Negotiation, IsOutcome}
 use Rattle.nego_model.specs.Joining.{RelationTest, By}
 use Rattle.nego_model.specs.Expression.{PlainNode, Then, Means}
-use Rattle.nego_model.proofs.Expressions.{Means-append}
+use Rattle.nego_model.proofs.expressions.Nodes.{Means-append}
 use Rattle.nego_expr.specs.Work.{WorkOutcome, PlainWork, outcome_at, work_parties, work_outcomes, sent_to, negotiation_of_work, ByWork, IsWork}
 use Rattle.nego_expr.specs.Use.{outcomes_at, nodes_then, enters, through, entered_by, without_unentered, shortcut_of, can_shortcut, after_shortcut}
 use Rattle.nego_expr.proofs.Alive.{ByWork-found}

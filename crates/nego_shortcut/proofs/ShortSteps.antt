@@ -9,11 +9,11 @@ use Rattle.nego_model.specs.Occurring.{PlainMarking, Occurrence, ready, moved, e
 use Rattle.nego_model.specs.Joining.{Relation}
 use Rattle.nego_model.specs.Reaching.{Reaches}
 use Rattle.nego_base.proofs.Members.{is_in-head, in_or_not}
-use Rattle.nego_model.proofs.Markings.{length-moved, ready-moved_party, ready-moved_other, same_markings, enables_from}
-use Rattle.nego_model.proofs.Steps.{after-some, after-outcome, after_from}
-use Rattle.nego_model.proofs.Commuting.{enables-below}
-use Rattle.nego_model.proofs.Reached.{reached_by_last}
-use Rattle.nego_model.proofs.Simulating.{as-enabled, as-after}
+use Rattle.nego_model.proofs.occurrence.Markings.{length-moved, ready-moved_party, ready-moved_other, same_markings, enables_from}
+use Rattle.nego_model.proofs.occurrence.Steps.{after-some, after-outcome, after_from}
+use Rattle.nego_model.proofs.occurrence.Commuting.{enables-below}
+use Rattle.nego_model.proofs.occurrence.Reached.{reached_by_last}
+use Rattle.nego_model.proofs.simulation.Simulations.{as-enabled, as-after}
 use Rattle.nego_shortcut.proofs.Shortens.{Shortens}
 use Rattle.nego_shortcut.proofs.ShortReaches.{MayStart}
 

@@ -3,7 +3,7 @@ use Rattle.std.proofs.lemmas.Option.{same_Some}
 use Rattle.nego_model.specs.Occurring.{opening_marking, final_marking, leaves}
 use Rattle.nego_model.specs.Diagram.{negotiation_of}
 use Rattle.nego_model.specs.Followed.{marking_in, occurrences}
-use Rattle.nego_model.proofs.Followed.{follows_on, length-occurrences, entry_at, all_occurred, IsRun_from_leaves, no_run, not_complete}
+use Rattle.nego_model.proofs.occurrence.Followed.{follows_on, length-occurrences, entry_at, all_occurred, IsRun_from_leaves, no_run, not_complete}
 use Rattle.nego_model.proofs.following.follow.Goals as goal
 
 pub loop-i-preserved : goal.loop-i-preserved

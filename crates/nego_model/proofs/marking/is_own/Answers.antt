@@ -1,6 +1,6 @@
 use Rattle.std.proofs.Common.{◌∙◌, ap}
 use Rattle.nego_base.specs.Members.{is_in}
-use Rattle.nego_model.proofs.Kept.{own-range}
+use Rattle.nego_model.proofs.occurrence.MarkingArrays.{own-range}
 use Rattle.nego_model.proofs.marking.is_own.Goals as goal
 
 pub returns-clause-own : goal.returns-clause-own

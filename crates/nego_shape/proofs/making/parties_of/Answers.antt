@@ -2,7 +2,7 @@ use Rattle.std.proofs.Common.{◌≡◌, ℕ, ◌<◌, List, [], length, map, So
 use Rattle.std.specs.List.{All}
 use Rattle.std.specs.Option.{option_map_or}
 use Rattle.nego_base.specs.declared.line.Word.{Word}
-use Rattle.nego_model.proofs.Readers.{all_at_place, mapped_at}
+use Rattle.nego_model.proofs.diagrams.Readers.{all_at_place, mapped_at}
 use Rattle.nego_reader.specs.declared.parsed.Parsed.{Parsed}
 use Rattle.nego_reader.specs.declared.parsed.PAtom.{PAtom}
 use Rattle.nego_reader.specs.Content.{AtomContent, content_of, atom_content, texts}

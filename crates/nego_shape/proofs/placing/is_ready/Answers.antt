@@ -1,6 +1,6 @@
 use Rattle.std.proofs.Common.{◌≡◌, ◌∙◌, sym, true, false}
 use Rattle.nego_base.proofs.Members.{all_in-member, all_in-members}
-use Rattle.nego_model.proofs.Diagrams.{atom_from_below}
+use Rattle.nego_model.proofs.diagrams.Negotiations.{atom_from_below}
 use Rattle.nego_shape.proofs.placing.is_ready.Goals as goal
 
 pub returns-clause-yes : goal.returns-clause-yes

@@ -1,6 +1,6 @@
 use Rattle.std.proofs.Common.{◌≡◌, ◌∙◌, sym, true, false, arith, ⊎_elim}
 use Rattle.std.proofs.lemmas.Bool.{cases_lt}
-use Rattle.nego_model.proofs.Diagrams.{atom_from_below, atom-below}
+use Rattle.nego_model.proofs.diagrams.Negotiations.{atom_from_below, atom-below}
 use Rattle.nego_shape.proofs.placing.least_left.Goals as goal
 
 differ : true ≡ false → ⊥

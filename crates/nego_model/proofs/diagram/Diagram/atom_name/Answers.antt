@@ -1,4 +1,4 @@
-use Rattle.nego_model.proofs.Readers.{atom_named}
+use Rattle.nego_model.proofs.diagrams.Readers.{atom_named}
 use Rattle.nego_model.proofs.diagram.Diagram.atom_name.Goals as goal
 
 pub returns-clause-name : goal.returns-clause-name

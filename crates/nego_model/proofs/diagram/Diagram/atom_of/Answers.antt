@@ -1,8 +1,8 @@
 use Rattle.std.proofs.Common.{subst}
 use Rattle.nego_model.specs.Negotiation.{IsOutcome}
 use Rattle.nego_model.specs.Diagram.{negotiation_of}
-use Rattle.nego_model.proofs.Diagrams.{atom-below}
-use Rattle.nego_model.proofs.Readers.{outcome_part-own}
+use Rattle.nego_model.proofs.diagrams.Negotiations.{atom-below}
+use Rattle.nego_model.proofs.diagrams.Readers.{outcome_part-own}
 use Rattle.nego_model.proofs.diagram.Diagram.atom_of.Goals as goal
 
 pub returns-clause-outcome : goal.returns-clause-outcome

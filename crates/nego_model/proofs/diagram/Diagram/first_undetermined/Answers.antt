@@ -1,5 +1,5 @@
 use Rattle.std.proofs.Common.{arith}
-use Rattle.nego_model.proofs.Undetermined.{determined, undetermined}
+use Rattle.nego_model.proofs.diagrams.Undetermined.{determined, undetermined}
 use Rattle.nego_model.proofs.diagram.Diagram.first_undetermined.Goals as goal
 
 pub returns-clause-none : goal.returns-clause-none

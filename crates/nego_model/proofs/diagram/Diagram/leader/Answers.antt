@@ -1,4 +1,4 @@
-use Rattle.nego_model.proofs.Readers.{first_member, first_least}
+use Rattle.nego_model.proofs.diagrams.Readers.{first_member, first_least}
 use Rattle.nego_model.proofs.diagram.Diagram.leader.Goals as goal
 
 pub returns-clause-party : goal.returns-clause-party

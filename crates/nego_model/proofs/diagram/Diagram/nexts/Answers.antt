@@ -2,7 +2,7 @@ use Rattle.std.proofs.Common.{◌<◌, length, arith, sym, subst}
 use Rattle.std.proofs.lemmas.Option.{slice_get_read}
 use Rattle.std.specs.List.{All}
 use Rattle.nego_model.specs.Diagram.{PlainDiagram}
-use Rattle.nego_model.proofs.Readers.{nexts_part-below}
+use Rattle.nego_model.proofs.diagrams.Readers.{nexts_part-below}
 use Rattle.nego_model.proofs.diagram.Diagram.nexts.Goals as goal
 
 pub returns-clause-in_range : goal.returns-clause-in_range

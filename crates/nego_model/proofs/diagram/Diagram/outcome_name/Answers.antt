@@ -1,4 +1,4 @@
-use Rattle.nego_model.proofs.Readers.{outcome_named}
+use Rattle.nego_model.proofs.diagrams.Readers.{outcome_named}
 use Rattle.nego_model.proofs.diagram.Diagram.outcome_name.Goals as goal
 
 pub returns-clause-name : goal.returns-clause-name

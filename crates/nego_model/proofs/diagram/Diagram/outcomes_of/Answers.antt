@@ -1,6 +1,6 @@
 use Rattle.std.proofs.Common.{◌+◌, ◌≤◌, length, subst}
 use Rattle.nego_model.specs.Diagram.{PlainDiagram}
-use Rattle.nego_model.proofs.Readers.{some_number_part, numbers_part-below}
+use Rattle.nego_model.proofs.diagrams.Readers.{some_number_part, numbers_part-below}
 use Rattle.nego_model.proofs.diagram.Diagram.outcomes_of.Goals as goal
 
 pub returns-clause-some : goal.returns-clause-some

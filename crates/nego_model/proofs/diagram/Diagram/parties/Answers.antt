@@ -1,7 +1,7 @@
 use Rattle.std.proofs.Common.{◌<◌, length, subst}
 use Rattle.std.specs.List.{All}
 use Rattle.nego_model.specs.Diagram.{PlainDiagram}
-use Rattle.nego_model.proofs.Readers.{parties_part-some, parties_part-below}
+use Rattle.nego_model.proofs.diagrams.Readers.{parties_part-some, parties_part-below}
 use Rattle.nego_model.proofs.diagram.Diagram.parties.Goals as goal
 
 pub returns-clause-some : goal.returns-clause-some

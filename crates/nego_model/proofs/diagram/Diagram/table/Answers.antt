@@ -2,7 +2,7 @@ use Rattle.std.proofs.Common.{subst}
 use Rattle.nego_data.specs.Data.{data_count}
 use Rattle.nego_data.specs.Tables.{IsTable}
 use Rattle.nego_model.specs.Diagram.{PlainDiagram}
-use Rattle.nego_model.proofs.Readers.{table_part-ok}
+use Rattle.nego_model.proofs.diagrams.Readers.{table_part-ok}
 use Rattle.nego_model.proofs.diagram.Diagram.table.Goals as goal
 
 pub returns-clause-rows : goal.returns-clause-rows

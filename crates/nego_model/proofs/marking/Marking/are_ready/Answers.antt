@@ -1,7 +1,7 @@
 use Rattle.std.proofs.Common.{◌≡◌, ◌<◌, false, [], length, sym, subst, ◌∙◌, arith, IsTrue}
 use Rattle.std.proofs.lemmas.Option.{slice_get_read, get_or_from_slice_get}
 use Rattle.nego_base.specs.Members.{is_in}
-use Rattle.nego_model.proofs.Kept.{all_ready_kept, not_ready_kept}
+use Rattle.nego_model.proofs.occurrence.MarkingArrays.{all_ready_kept, not_ready_kept}
 use Rattle.nego_model.proofs.marking.Marking.are_ready.Goals as goal
 
 pub returns-then-not-has : goal.returns-then-not-has

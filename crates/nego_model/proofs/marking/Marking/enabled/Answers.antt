@@ -2,7 +2,7 @@ use Rattle.std.proofs.Common.{◌≡◌, ◌<◌, false, ltb, length, sym, subst
 use Rattle.std.proofs.lemmas.Bool.Decides.{nat_tests}
 use Rattle.std.proofs.Common.{arith}
 use Rattle.nego_model.specs.Followed.{marking_in}
-use Rattle.nego_model.proofs.Kept.{enables-kept, enables-past}
+use Rattle.nego_model.proofs.occurrence.MarkingArrays.{enables-kept, enables-past}
 use Rattle.nego_model.proofs.marking.Marking.enabled.Goals as goal
 
 pub returns-then-n-atoms : goal.returns-then-n-atoms

@@ -1,8 +1,8 @@
 use Rattle.std.proofs.Common.{sym, ◌∙◌}
 use Rattle.nego_model.specs.Diagram.{negotiation_of}
 use Rattle.nego_model.specs.Followed.{marking_in}
-use Rattle.nego_model.proofs.Markings.{enables-atom}
-use Rattle.nego_model.proofs.Diagrams.{atom-below}
+use Rattle.nego_model.proofs.occurrence.Markings.{enables-atom}
+use Rattle.nego_model.proofs.diagrams.Negotiations.{atom-below}
 use Rattle.nego_model.proofs.marking.Marking.fire.Goals as goal
 
 pub is_own-requires : goal.is_own-requires

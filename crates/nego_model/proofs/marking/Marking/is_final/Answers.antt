@@ -1,5 +1,5 @@
 use Rattle.std.proofs.Common.{refl, arith}
-use Rattle.nego_model.proofs.Kept.{final_kept}
+use Rattle.nego_model.proofs.occurrence.MarkingArrays.{final_kept}
 use Rattle.nego_model.proofs.marking.Marking.is_final.Goals as goal
 
 pub returns : goal.returns

@@ -1,7 +1,7 @@
 use Rattle.std.proofs.Common.{◌≡◌, List, ℕ, [], length, slice_index_or, cond, subst, arith}
 use Rattle.nego_base.specs.Members.{is_in}
 use Rattle.nego_model.specs.Diagram.{parties_of, nexts_of}
-use Rattle.nego_model.proofs.Kept.{moved_kept, rest_kept}
+use Rattle.nego_model.proofs.occurrence.MarkingArrays.{moved_kept, rest_kept}
 use Rattle.nego_model.proofs.marking.Marking.move_parties.Goals as goal
 
 pub returns-clause-value : goal.returns-clause-value

@@ -1,6 +1,6 @@
 use Rattle.std.proofs.Common.{◌≡◌, ◌∙◌, [], ◌∷◌, length, replicate, ap}
 use Rattle.nego_base.specs.Members.{with_member}
-use Rattle.nego_model.proofs.Kept.{same_kept}
+use Rattle.nego_model.proofs.occurrence.MarkingArrays.{same_kept}
 use Rattle.nego_model.proofs.marking.Marking.opening.Goals as goal
 
 pub returns : goal.returns

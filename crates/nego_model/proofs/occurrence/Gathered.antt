@@ -5,9 +5,9 @@ use Rattle.nego_base.specs.Members.{is_in}
 use Rattle.nego_model.specs.Negotiation.{Negotiation, IsNegotiation}
 use Rattle.nego_model.specs.Occurring.{PlainMarking, Occurrence, ready, moved, enables, after, final_marking}
 use Rattle.nego_base.proofs.Members.{is_in_single, is_in_none, some_member}
-use Rattle.nego_model.proofs.Markings.{length-moved, ready-moved_party, ready-replicate, same_for_all, enables-atom, enables-party, enables_from}
-use Rattle.nego_model.proofs.Steps.{after-some, after_from}
-use Rattle.nego_model.proofs.CompleteRuns.{some_agent}
+use Rattle.nego_model.proofs.occurrence.Markings.{length-moved, ready-moved_party, ready-replicate, same_for_all, enables-atom, enables-party, enables_from}
+use Rattle.nego_model.proofs.occurrence.Steps.{after-some, after_from}
+use Rattle.nego_model.proofs.occurrence.CompleteRuns.{some_agent}
 
 -- everyone is ready for these atoms
 abbrev pub all_ready : Negotiation → List ℕ → PlainMarking

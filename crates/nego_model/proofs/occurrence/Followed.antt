@@ -8,7 +8,7 @@ use Rattle.nego_base.specs.declared.ids.OutcomeId.{OutcomeId}
 use Rattle.nego_model.specs.Negotiation.{Negotiation}
 use Rattle.nego_model.specs.Occurring.{PlainMarking, Occurrence, opening_marking, after, leaves, IsRun, IsComplete, final_marking}
 use Rattle.nego_model.specs.Followed.{occurrences}
-use Rattle.nego_model.proofs.Steps.{leaves_through, leaves_one, leaves_between}
+use Rattle.nego_model.proofs.occurrence.Steps.{leaves_through, leaves_one, leaves_between}
 
 -- what the entries up to a place leave is what the entry there leaves after those before
 pub follows_on : (nego : Negotiation) (run : List Occurrence) (i : ℕ) (step : Occurrence) (middle : PlainMarking) (left : Option PlainMarking) → slice_get run i ≡ Some step →

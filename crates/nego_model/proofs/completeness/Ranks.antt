@@ -4,12 +4,7 @@ use Rattle.std.proofs.lemmas.Bool.{cases_eq, cases_order, cond-true, cond-false}
 use Rattle.nego_base.specs.Members.{is_in}
 use Rattle.nego_base.proofs.Members.{is_in-cases, is_in_none}
 use Rattle.nego_model.specs.Negotiation.{Negotiation, IsNegotiation}
-use Rattle.nego_model.specs.Acyclic.{IsEdge, IsForwardOrder}
-
--- the first place of a number in a list
-abbrev pub rank_in : List ℕ → ℕ → ℕ
-rank_in [] n = 0
-rank_in (m ∷ order) n = if m == n then 0 else rank_in order n + 1
+use Rattle.nego_model.specs.Acyclic.{IsEdge, IsForwardOrder, rank_in, IsRankedBy}
 
 -- a member stands at its place
 pub ranked : (n : ℕ) (order : List ℕ) → IsTrue (is_in n order) → (rank_in order n < length order) × ((d : ℕ) → get_or order (rank_in order n) d ≡ n)
@@ -55,3 +50,7 @@ module _ (nego : Negotiation) (ok : IsNegotiation nego) (order : List ℕ) (goes
           let P : ℕ → Type 0 = λ k. IsEdge nego k (get_or order (rank_in order n) 0) → ⊥ in
           let Q : ℕ → Type 0 = λ k. IsEdge nego m k → ⊥ in
           subst Q (to.1 0) (subst P (from.1 0) (goes.forward (rank_in order n) (rank_in order m) 0 l from.0)) edge
+
+-- a forward order ranks its negotiation
+pub order-ranks : (nego : Negotiation) (order : List ℕ) → IsNegotiation nego → IsForwardOrder nego order → IsRankedBy nego order
+order-ranks nego order ok goes = record { atoms = λ n h. goes.atoms n ∙ h; forward = edge-ranked nego ok order goes }

@@ -7,7 +7,7 @@ use Rattle.nego_base.specs.Members.{is_in, IsRising}
 use Rattle.nego_base.proofs.Members.{is_in_none, is_in_single, is_in-head, is_in-tail}
 use Rattle.nego_model.specs.Negotiation.{IsOutcome, IsDeterministic}
 use Rattle.nego_model.specs.Diagram.{PlainOutcome, PlainDiagram, IsDiagram, negotiation_of, nexts_of}
-use Rattle.nego_model.proofs.Readers.{own_outcome}
+use Rattle.nego_model.proofs.diagrams.Readers.{own_outcome}
 
 -- a list of one item at most has no two members
 one_member : (xs : List ℕ) (m p : ℕ) → length xs ≤ 1 → IsTrue (is_in m xs) → IsTrue (is_in p xs) → m ≡ p

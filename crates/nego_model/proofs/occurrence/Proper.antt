@@ -9,8 +9,8 @@ use Rattle.nego_base.specs.Members.{IsRising}
 use Rattle.nego_model.specs.Negotiation.{Negotiation, IsNegotiation, IsDeterministic, IsOutcome}
 use Rattle.nego_model.specs.Occurring.{PlainMarking, Occurrence, ready, enables, after, leaves, opening_marking}
 use Rattle.nego_base.proofs.Members.{is_in_single, rising-single}
-use Rattle.nego_model.proofs.Markings.{ready-moved_party, ready-moved_other, ready-replicate, enables-atom, enables-party}
-use Rattle.nego_model.proofs.Steps.{after-some, after-outcome, length-after, leaves-first}
+use Rattle.nego_model.proofs.occurrence.Markings.{ready-moved_party, ready-moved_other, ready-replicate, enables-atom, enables-party}
+use Rattle.nego_model.proofs.occurrence.Steps.{after-some, after-outcome, length-after, leaves-first}
 
 -- Each agent has a rising list of atoms of which it is a party.
 pub record IsProper (nego : Negotiation) (marking : PlainMarking) : Type 0 where

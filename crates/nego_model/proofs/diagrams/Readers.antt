@@ -16,7 +16,7 @@ use Rattle.nego_model.specs.declared.parts.Parts.{Parts}
 use Rattle.nego_model.specs.Negotiation.{IsOutcome}
 use Rattle.nego_model.specs.Diagram.{PlainOutcome, PlainDiagram, IsDiagram, negotiation_of, parties_of, outcomes_from, nexts_of}
 use Rattle.nego_model.specs.Parts.{plain_atom, plain_outcome, plain_of, AreParts}
-use Rattle.nego_model.proofs.Diagrams.{atom-below, atom_from_below, outcome_at, IsOutcome_from_at, nexts_of-at, parties_of-at}
+use Rattle.nego_model.proofs.diagrams.Negotiations.{atom-below, atom_from_below, outcome_at, IsOutcome_from_at, nexts_of-at, parties_of-at}
 
 -- what all items of a list have, the item at a place has
 pub all_at_place : {X : Type 0} (P : X → Type 0) (xs : List X) (k : ℕ) (x : X) → All P xs → slice_get xs k ≡ Some x → P x

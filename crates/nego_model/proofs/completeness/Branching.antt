@@ -7,10 +7,10 @@ use Rattle.nego_base.proofs.Members.{in_or_not, is_in-head, is_in_single, rising
 use Rattle.nego_model.specs.Negotiation.{Negotiation, IsNegotiation, IsDeterministic, IsOutcome}
 use Rattle.nego_model.specs.Occurring.{PlainMarking, ready, moved, enables, after, IsSound, CanOccur}
 use Rattle.nego_model.specs.Acyclic.{IsEdge}
-use Rattle.nego_model.proofs.Markings.{enables-party}
-use Rattle.nego_model.proofs.Steps.{after_from, length-run}
-use Rattle.nego_model.proofs.Reached.{Leads, Leads_through}
-use Rattle.nego_model.proofs.Ahead.{IsReached, ready-after_party, ready-after_other, reached-after, reached-led, reached-below, comes, walks, last_comes, never_comes, first_is_least}
+use Rattle.nego_model.proofs.occurrence.Markings.{enables-party}
+use Rattle.nego_model.proofs.occurrence.Steps.{after_from, length-run}
+use Rattle.nego_model.proofs.occurrence.Reached.{Leads, Leads_through}
+use Rattle.nego_model.proofs.completeness.Ahead.{IsReached, ready-after_party, ready-after_other, reached-after, reached-led, reached-below, comes, walks, last_comes, never_comes, first_is_least}
 
 -- Each two outcomes of the atom are one.
 abbrev pub HasOne : Negotiation → ℕ → Type 0

@@ -8,13 +8,13 @@ use Rattle.nego_base.proofs.Members.{in_or_not, is_in_none, is_in_single}
 use Rattle.nego_model.specs.Negotiation.{Negotiation, IsNegotiation, IsDeterministic}
 use Rattle.nego_model.specs.Occurring.{PlainMarking, Occurrence, ready, moved, enables, after, leaves, opening_marking, final_marking, IsSound}
 use Rattle.nego_model.specs.Acyclic.{IsEdge}
-use Rattle.nego_model.proofs.Markings.{ready-moved_party, ready-moved_other, ready-replicate, enables-atom, enables-party}
-use Rattle.nego_model.proofs.Steps.{after-some, after_from, length-after, length-run, leaves-first, leaves_before, last_entry}
-use Rattle.nego_model.proofs.Reached.{Leads, Leads-itself, Leads_one, Leads_through}
-use Rattle.nego_model.proofs.CompleteRuns.{last_from_final}
-use Rattle.nego_model.proofs.Proper.{IsSingle, opening-single, leaves-single}
-use Rattle.nego_model.proofs.Ways.{sound_leads}
-use Rattle.nego_model.proofs.Simulating.{Lasts, Lasts-led}
+use Rattle.nego_model.proofs.occurrence.Markings.{ready-moved_party, ready-moved_other, ready-replicate, enables-atom, enables-party}
+use Rattle.nego_model.proofs.occurrence.Steps.{after-some, after_from, length-after, length-run, leaves-first, leaves_before, last_entry}
+use Rattle.nego_model.proofs.occurrence.Reached.{Leads, Leads-itself, Leads_one, Leads_through}
+use Rattle.nego_model.proofs.occurrence.CompleteRuns.{last_from_final}
+use Rattle.nego_model.proofs.occurrence.Proper.{IsSingle, opening-single, leaves-single}
+use Rattle.nego_model.proofs.occurrence.Ways.{sound_leads}
+use Rattle.nego_model.proofs.simulation.Simulations.{Lasts, Lasts-led}
 
 -- The opening marking leads to it.
 abbrev pub IsReached : Negotiation → PlainMarking → Type 0

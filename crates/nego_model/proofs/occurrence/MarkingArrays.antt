@@ -11,8 +11,8 @@ use Rattle.nego_model.specs.Occurring.{PlainMarking, final_marking, ready, moved
 use Rattle.nego_model.specs.Diagram.{PlainDiagram, IsDiagram, negotiation_of, parties_of}
 use Rattle.nego_model.specs.Followed.{marking_in}
 use Rattle.nego_base.proofs.Members.{is_in-range, is_in-range_zero, all_at, all_from}
-use Rattle.nego_model.proofs.Diagrams.{atom_from_below}
-use Rattle.nego_model.proofs.Markings.{length-moved, ready-moved, same_markings, same_for_all}
+use Rattle.nego_model.proofs.diagrams.Negotiations.{atom_from_below}
+use Rattle.nego_model.proofs.occurrence.Markings.{length-moved, ready-moved, same_markings, same_for_all}
 
 -- what an agent is ready for
 pub ready-kept : (diagram : PlainDiagram) (marking : Marking) (a : ℕ) → a < length diagram.agents → ready (marking_in diagram marking) a ≡ slice_index_or marking.ready a []

@@ -9,13 +9,13 @@ use Rattle.nego_model.specs.Negotiation.{Negotiation, IsNegotiation, IsDetermini
 use Rattle.nego_model.specs.Occurring.{PlainMarking, Occurrence, ready, moved, enables, after, leaves, opening_marking, final_marking, IsSound}
 use Rattle.nego_model.specs.Reaching.{all_at_last}
 use Rattle.nego_model.specs.Acyclic.{IsEdge}
-use Rattle.nego_model.proofs.Markings.{ready-replicate, enables-atom, enables-party}
-use Rattle.nego_model.proofs.Steps.{after-some, after-outcome, after_from, leaves-first}
-use Rattle.nego_model.proofs.Reached.{Leads, Leads-itself}
-use Rattle.nego_model.proofs.Gathered.{all_ready-enabled, all_ready-enables, after_gathered, after_nothing_ready, after_all_sent}
-use Rattle.nego_model.proofs.Ways.{after_all_at_last, sound_leads}
-use Rattle.nego_model.proofs.Ahead.{IsReached, ready-after_party, reached-after, reached-below}
-use Rattle.nego_model.proofs.Branching.{HasOne, IsReduced, sent, all_have_one}
+use Rattle.nego_model.proofs.occurrence.Markings.{ready-replicate, enables-atom, enables-party}
+use Rattle.nego_model.proofs.occurrence.Steps.{after-some, after-outcome, after_from, leaves-first}
+use Rattle.nego_model.proofs.occurrence.Reached.{Leads, Leads-itself}
+use Rattle.nego_model.proofs.occurrence.Gathered.{all_ready-enabled, all_ready-enables, after_gathered, after_nothing_ready, after_all_sent}
+use Rattle.nego_model.proofs.occurrence.Ways.{after_all_at_last, sound_leads}
+use Rattle.nego_model.proofs.completeness.Ahead.{IsReached, ready-after_party, reached-after, reached-below}
+use Rattle.nego_model.proofs.completeness.Branching.{HasOne, IsReduced, sent, all_have_one}
 
 -- The first atom has one outcome, which sends everyone to the last, and there are no other atoms.
 pub record IsClosable (nego : Negotiation) : Type 0 where

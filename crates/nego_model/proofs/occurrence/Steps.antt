@@ -6,7 +6,7 @@ use Rattle.std.proofs.lemmas.List.{length-replicate}
 use Rattle.nego_base.specs.Members.{is_in}
 use Rattle.nego_model.specs.Negotiation.{Negotiation, IsOutcome}
 use Rattle.nego_model.specs.Occurring.{PlainMarking, Occurrence, moved, enables, after, leaves, opening_marking}
-use Rattle.nego_model.proofs.Markings.{length-moved, enables-atom}
+use Rattle.nego_model.proofs.occurrence.Markings.{length-moved, enables-atom}
 
 -- What an occurrence that leaves a marking shows: its atom is enabled, its outcome is one of the atom's, and its
 -- parties have moved.

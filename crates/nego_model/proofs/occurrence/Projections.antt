@@ -6,9 +6,10 @@ use Rattle.std.proofs.lemmas.List.{length-replicate}
 use Rattle.nego_base.specs.Members.{is_in}
 use Rattle.nego_model.specs.Negotiation.{Negotiation}
 use Rattle.nego_model.specs.Occurring.{PlainMarking, Occurrence, ready, leaves, opening_marking}
-use Rattle.nego_model.specs.Projection.{AreApart, projection, ready_behind}
-use Rattle.nego_model.proofs.Markings.{ready-moved, ready-replicate, same_markings}
-use Rattle.nego_model.proofs.Steps.{after-some, length-after, leaves-first, length-run}
+use Rattle.nego_model.specs.Joining.{Entry, steps_of}
+use Rattle.nego_model.specs.Projection.{AreApart, projection, own_entries, ready_behind}
+use Rattle.nego_model.proofs.occurrence.Markings.{ready-moved, ready-replicate, same_markings}
+use Rattle.nego_model.proofs.occurrence.Steps.{after-some, length-after, leaves-first, length-run}
 
 -- the projection of entries and then entries
 pub projection-append : (nego : Negotiation) (a : ℕ) (front rest : List Occurrence) → projection nego a (front ++ rest) ≡ projection nego a front ++ projection nego a rest
@@ -61,3 +62,12 @@ same_seen nego one two left left' h k same =
     same_markings left left' (length-run nego one left h ∙ sym (length-run nego two left' k)) (λ a l.
     let below : a < nego.agents = subst (λ n. a < n) (length-run nego one left h) l in
     ready-run nego one left a below h ∙ (ap (λ seen. ready_behind nego a (nego.first ∷ []) seen) (same a below) ∙ sym (ready-run nego two left' a below k)))
+
+-- the occurrences of an agent's own entries are the projection of the run
+pub own_entries-steps : (nego : Negotiation) (a : ℕ) (history : List Entry) → steps_of (own_entries nego a history) ≡ projection nego a (steps_of history)
+own_entries-steps nego a [] = refl
+own_entries-steps nego a (entry ∷ history) = chosen (is_in a (nego.parties entry.step.0)) ∙ ap (λ seen. cond (is_in a (nego.parties entry.step.0)) (entry.step ∷ seen) seen) (own_entries-steps nego a history)
+  where
+    chosen : (b : Bool) → steps_of (cond b (entry ∷ own_entries nego a history) (own_entries nego a history)) ≡ cond b (entry.step ∷ steps_of (own_entries nego a history)) (steps_of (own_entries nego a history))
+    chosen true = refl
+    chosen false = refl

@@ -12,7 +12,7 @@ use Rattle.nego_data.specs.CaseForm.{AssignsBelow, IsCovered, FitsSize}
 use Rattle.nego_model.specs.Diagram.{IsDiagram}
 use Rattle.nego_data.proofs.Tables.{rows_of-table, rows_of-relates}
 use Rattle.nego_data.proofs.CaseRelations.{related_from_covered}
-use Rattle.nego_model.proofs.OneAtom.{one_atom, one_atom_diagram}
+use Rattle.nego_model.proofs.diagrams.OneAtom.{one_atom, one_atom_diagram}
 
 -- a diagram of one atom, where the cases' numbers fit and cover all data
 pub one_atom_of_cases : (agent : List ℕ) (size : ℕ) (atom outcome : List ℕ) (cases : List Case) → 0 < size → All (AssignsBelow (size ∷ [])) cases →

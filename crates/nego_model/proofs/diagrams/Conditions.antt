@@ -11,8 +11,8 @@ use Rattle.nego_data.proofs.Acting.{ActsOn-same}
 use Rattle.nego_model.specs.Negotiation.{IsOutcome, IsNegotiation}
 use Rattle.nego_model.specs.Joining.{By}
 use Rattle.nego_model.specs.Diagram.{PlainAtom, PlainOutcome, PlainDiagram, IsDiagram, negotiation_of, parties_of, outcomes_from, nexts_of, relation_of}
-use Rattle.nego_model.proofs.Diagrams.{atom-below, atom_from_below, outcome_at, same_atom, rising-atoms, rising-outcomes, parties_of-at, nexts_of-at, relation_of-at}
-use Rattle.nego_model.proofs.Readers.{all_at_place}
+use Rattle.nego_model.proofs.diagrams.Negotiations.{atom-below, atom_from_below, outcome_at, same_atom, rising-atoms, rising-outcomes, parties_of-at, nexts_of-at, relation_of-at}
+use Rattle.nego_model.proofs.diagrams.Readers.{all_at_place}
 
 -- The parties of an atom are a rising list of agents, and there is one.
 pub record AtomFits (agents : ℕ) (atom : PlainAtom) : Type 0 where

@@ -14,10 +14,11 @@ use Rattle.nego_data.specs.Tables.{IsTable}
 use Rattle.nego_model.specs.Expression.{Base, children, IsNodeList, Means}
 use Rattle.nego_model.specs.Summary.{PlainSummary, Tells}
 use Rattle.nego_base.proofs.Members.{is_in_single, is_in_none}
-use Rattle.nego_model.proofs.Markings.{enables-atom, enables-party}
-use Rattle.nego_model.proofs.Steps.{after-some, after-outcome, leaves-first, run_leaves}
-use Rattle.nego_model.proofs.Joined.{Joins_one, related_from_one}
-use Rattle.nego_model.proofs.CompleteRuns.{opening_not_final}
+use Rattle.nego_model.proofs.occurrence.Markings.{enables-atom, enables-party}
+use Rattle.nego_model.proofs.occurrence.Steps.{after-some, after-outcome, leaves-first, run_leaves}
+use Rattle.nego_model.proofs.expressions.Bases.{AllBases_one}
+use Rattle.nego_model.proofs.occurrence.Joined.{Joins_one, related_from_one}
+use Rattle.nego_model.proofs.occurrence.CompleteRuns.{opening_not_final}
 use Rattle.nego_data.proofs.Tables.{row-on_data}
 
 -- one agent of this size, and one atom, first and last, with one outcome of this table
@@ -145,7 +146,7 @@ module _ (agent : List ℕ) (size : ℕ) (atom outcome : List ℕ) (table : List
   -- the summary of one node tells the diagram
   pub one_base_tells : Tells (one_base outcome) (one_atom agent size atom outcome table)
   one_base_tells = record {
-    formed = record { below = below; there = there };
+    formed = record { below = below; bases = AllBases_one (λ o. o < 1) (Base 0) (omega arith); there = there };
     sound = one_atom_sound;
     named = refl;
     each = each;

@@ -7,12 +7,12 @@ use Rattle.nego_model.specs.Occurring.{PlainMarking, Occurrence, ready, moved, e
 use Rattle.nego_model.specs.Joining.{Relation, Joins, EndsWith, Runs}
 use Rattle.nego_model.specs.Reaching.{all_at_last, EndsAtLast}
 use Rattle.nego_base.proofs.Members.{is_in-head}
-use Rattle.nego_model.proofs.Markings.{length-moved, ready-moved_party, ready-replicate, same_for_all, enables_from, enables-party}
-use Rattle.nego_model.proofs.Steps.{after-some, after-outcome, after_from, leaves_before, leaves_then, leaves_through, run_leaves}
-use Rattle.nego_model.proofs.Joined.{Joins_then, joins_before}
-use Rattle.nego_model.proofs.CompleteRuns.{ends_with_the_last_atom}
-use Rattle.nego_model.proofs.Reached.{Leads}
-use Rattle.nego_model.proofs.Proper.{IsProper, IsSingle, opening-proper, opening-single, leaves-proper, leaves-single, ready_alone}
+use Rattle.nego_model.proofs.occurrence.Markings.{length-moved, ready-moved_party, ready-replicate, same_for_all, enables_from, enables-party}
+use Rattle.nego_model.proofs.occurrence.Steps.{after-some, after-outcome, after_from, leaves_before, leaves_then, leaves_through, run_leaves}
+use Rattle.nego_model.proofs.occurrence.Joined.{Joins_then, joins_before}
+use Rattle.nego_model.proofs.occurrence.CompleteRuns.{ends_with_the_last_atom}
+use Rattle.nego_model.proofs.occurrence.Reached.{Leads}
+use Rattle.nego_model.proofs.occurrence.Proper.{IsProper, IsSingle, opening-proper, opening-single, leaves-proper, leaves-single, ready_alone}
 
 -- who is ready for one atom at most, and in a marking that enables the last atom, is ready for it alone
 pub all_at_last-from_enabled : (nego : Negotiation) → IsNegotiation nego → (marking : PlainMarking) → IsProper nego marking → IsSingle nego marking → IsTrue (enables nego marking nego.last) → marking ≡ all_at_last nego

@@ -7,11 +7,11 @@ use Rattle.nego_model.specs.Negotiation.{Negotiation, IsNegotiation, IsDetermini
 use Rattle.nego_model.specs.Occurring.{PlainMarking, Occurrence, moved, enables, after, leaves, opening_marking, final_marking, IsSound}
 use Rattle.nego_model.specs.Joining.{Relation, Runs}
 use Rattle.nego_model.specs.Reaching.{all_at_last, Reaches, EndsAtLast}
-use Rattle.nego_model.proofs.Markings.{enables-atom, enables-party, enables_from}
-use Rattle.nego_model.proofs.Steps.{after-some, after-outcome, after_from, leaves-first}
-use Rattle.nego_model.proofs.Reached.{Leads, Leads-itself, Leads_through, Reaches-itself, Reaches_one, Reaches_through, reached_by_last}
-use Rattle.nego_model.proofs.Alike.{AreAlike, moved-same, IsOutcome-alike, after-alike}
-use Rattle.nego_model.proofs.Ways.{runs_pass_all_at_last, Runs-from_all_at_last, sound_leads, Sound_from_leads}
+use Rattle.nego_model.proofs.occurrence.Markings.{enables-atom, enables-party, enables_from}
+use Rattle.nego_model.proofs.occurrence.Steps.{after-some, after-outcome, after_from, leaves-first}
+use Rattle.nego_model.proofs.occurrence.Reached.{Leads, Leads-itself, Leads_through, Reaches-itself, Reaches_one, Reaches_through, reached_by_last}
+use Rattle.nego_model.proofs.simulation.Alike.{AreAlike, moved-same, IsOutcome-alike, after-alike}
+use Rattle.nego_model.proofs.occurrence.Ways.{runs_pass_all_at_last, Runs-from_all_at_last, sound_leads, Sound_from_leads}
 
 -- ---- one atom in two negotiations
 

@@ -6,8 +6,8 @@ use Rattle.nego_model.specs.Negotiation.{Negotiation, IsNegotiation}
 use Rattle.nego_model.specs.Occurring.{PlainMarking, Occurrence, ready, after, opening_marking, final_marking, IsComplete}
 use Rattle.nego_model.specs.Joining.{EndsWith}
 use Rattle.nego_base.proofs.Members.{some_member}
-use Rattle.nego_model.proofs.Markings.{ready-moved_party, ready-replicate}
-use Rattle.nego_model.proofs.Steps.{after-some, after-outcome, leaves_before, length-run, last_entry}
+use Rattle.nego_model.proofs.occurrence.Markings.{ready-moved_party, ready-replicate}
+use Rattle.nego_model.proofs.occurrence.Steps.{after-some, after-outcome, leaves_before, length-run, last_entry}
 
 -- a negotiation has an agent
 pub some_agent : (nego : Negotiation) → IsNegotiation nego → 0 < nego.agents

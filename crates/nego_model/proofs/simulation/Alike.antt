@@ -5,9 +5,9 @@ use Rattle.nego_model.specs.Negotiation.{Negotiation, IsOutcome}
 use Rattle.nego_model.specs.Occurring.{PlainMarking, Occurrence, ready, moved, enables, after, leaves, opening_marking, final_marking, IsComplete, IsSound}
 use Rattle.nego_model.specs.Joining.{Relation, Runs}
 use Rattle.nego_model.specs.Reaching.{Reaches}
-use Rattle.nego_model.proofs.Markings.{length-moved, ready-moved_party, ready-moved_other, same_markings, enables-atom, enables-party, enables_from}
-use Rattle.nego_model.proofs.Steps.{after-some, after-outcome, after_from, leaves-first, leaves_from_first, run_leaves}
-use Rattle.nego_model.proofs.Joined.{Joins-wider}
+use Rattle.nego_model.proofs.occurrence.Markings.{length-moved, ready-moved_party, ready-moved_other, same_markings, enables-atom, enables-party, enables_from}
+use Rattle.nego_model.proofs.occurrence.Steps.{after-some, after-outcome, after_from, leaves-first, leaves_from_first, run_leaves}
+use Rattle.nego_model.proofs.occurrence.Joined.{Joins-wider}
 use Rattle.nego_base.proofs.Members.{in_or_not}
 
 -- The two have the same agents, atoms, parties, outcomes, first and last atom, and the same next atoms of parties.

@@ -11,12 +11,12 @@ use Rattle.nego_model.specs.Reaching.{Reaches}
 use Rattle.nego_model.specs.Locality.{IsLocal}
 use Rattle.nego_model.specs.Projection.{AreApart}
 use Rattle.nego_base.proofs.Members.{is_in_none}
-use Rattle.nego_model.proofs.Markings.{length-moved, ready-moved_party, ready-moved_other, same_markings, enables-atom, enables-party, enables_from}
-use Rattle.nego_model.proofs.Steps.{after-some, after-outcome, after_from}
-use Rattle.nego_model.proofs.Reached.{reached_by_last}
+use Rattle.nego_model.proofs.occurrence.Markings.{length-moved, ready-moved_party, ready-moved_other, same_markings, enables-atom, enables-party, enables_from}
+use Rattle.nego_model.proofs.occurrence.Steps.{after-some, after-outcome, after_from}
+use Rattle.nego_model.proofs.occurrence.Reached.{reached_by_last}
 use Rattle.nego_base.proofs.Members.{in_or_not}
 use Rattle.nego_data.proofs.Acting.{acts_commute}
-use Rattle.nego_model.proofs.Proper.{IsSingle, same_enabled}
+use Rattle.nego_model.proofs.occurrence.Proper.{IsSingle, same_enabled}
 
 -- a party of an enabled atom has a place in the marking
 pub enables-below : (nego : Negotiation) (marking : PlainMarking) (n a : ℕ) → IsTrue (enables nego marking n) → IsTrue (is_in a (nego.parties n)) → a < length marking

@@ -1,0 +1,5 @@
+-- What a sound negotiation comes to.
+pub mod Ranks
+pub mod Ahead
+pub mod Branching
+pub mod Closable

@@ -1,0 +1,3 @@
+-- Negotiations that do what others do.
+pub mod Simulations
+pub mod Alike
