@@ -1,5 +1,5 @@
 -- Small cases of the definitions, computed.
-use Rattle.std.proofs.Common.{◌≡◌, ⊎_elim, ℕ, zero, suc, ◌<◌, true, List, [], ◌∷◌, ◌++◌, Some, IsTrue, refl, sym, subst, arith}
+use Rattle.std.proofs.Common.{◌≡◌, ⊎_elim, ℕ, zero, suc, ◌+◌, ◌*◌, ◌<◌, ◌==◌, if◌then◌else◌, true, List, [], ◌∷◌, ◌++◌, Some, None, IsTrue, refl, sym, subst, arith}
 use Rattle.std.proofs.lemmas.Bool.{true≢false}
 use Rattle.std.proofs.lemmas.Option.{same_Some}
 use Rattle.nego_base.specs.Members.{is_in}
@@ -13,7 +13,9 @@ use Rattle.nego_model.specs.Occurring.{PlainMarking, Occurrence, ready, after, l
 use Rattle.nego_data.specs.Data.{split, joint}
 use Rattle.nego_data.specs.Cases.{relates, rows_of}
 use Rattle.nego_model.specs.Diagram.{PlainDiagram, negotiation_of}
-use Rattle.nego_model.specs.Projection.{projection, ready_behind}
+use Rattle.nego_model.specs.Projection.{projection, own_entries, ready_behind}
+use Rattle.nego_model.specs.Acyclic.{rank_in}
+use Rattle.nego_model.specs.Expression.{Base, Then, ByNodes, Relates}
 use Rattle.nego_base.proofs.Members.{is_in_single, is_in-cases}
 use Rattle.nego_model.proofs.occurrence.Markings.{ready-replicate, enables-atom, enables-party}
 use Rattle.nego_model.proofs.occurrence.Steps.{after-some, leaves-first}
@@ -174,3 +176,19 @@ seen_in_two = refl
 
 ready_then : ready_behind (negotiation_of that_parts) 1 (0 ∷ []) ((0, 0) ∷ (2, 2) ∷ []) ≡ 3 ∷ []
 ready_then = refl
+
+-- of a history of the first, the entries of agent 1
+own_in_one : own_entries (negotiation_of that_parts) 1 (record { step = (0, 0); joint = 5 } ∷ record { step = (1, 1); joint = 6 } ∷ record { step = (2, 2); joint = 7 } ∷ [])
+    ≡ record { step = (0, 0); joint = 5 } ∷ record { step = (2, 2); joint = 7 } ∷ []
+own_in_one = refl
+
+-- ranks in an order, one of whose atoms was dropped
+ranks_with_dropped : (rank_in (4 ∷ 2 ∷ 7 ∷ []) 4 ≡ 0) × (rank_in (4 ∷ 2 ∷ 7 ∷ []) 7 ≡ 2)
+ranks_with_dropped = (refl, refl)
+
+-- an outcome whose node is outcome 0 and then outcome 1, where the one adds 1 and the other doubles; and one that is gone
+then_means : Relates (ByNodes (λ o d e. if o == 0 then e == d + 1 else e == 2 * d) (Base 0 ∷ Base 1 ∷ Then 0 1 ∷ []) (λ o. if o == 5 then Some 2 else None)) 5 3 8
+then_means = (4, refl, refl)
+
+gone_means_nothing : Relates (ByNodes (λ o d e. true) (Base 0 ∷ []) (λ o. None)) 5 3 8 → ⊥
+gone_means_nothing h = h

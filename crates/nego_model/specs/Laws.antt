@@ -1,13 +1,15 @@
 -- Laws over the definitions, each proved as the clause of a public function.
-use Rattle.std.specs.Prelude.{◌≡◌, ◌↔◌, ℕ, ◌<◌, List, [], ◌∷◌, ◌++◌, length, Some}
+use Rattle.std.specs.Prelude.{◌≡◌, ◌≢◌, ◌↔◌, ℕ, ◌<◌, List, [], ◌∷◌, ◌++◌, length, Some, IsTrue}
+use Rattle.nego_base.specs.Members.{is_in}
 use Rattle.nego_data.specs.Data.{data_count}
 use Rattle.nego_data.specs.Locality.{AgreeOn}
 use Rattle.nego_model.specs.Negotiation.{Negotiation, IsNegotiation, IsDeterministic}
-use Rattle.nego_model.specs.Occurring.{PlainMarking, Occurrence, ready, after, leaves, opening_marking, IsComplete}
+use Rattle.nego_model.specs.Occurring.{PlainMarking, Occurrence, ready, after, leaves, opening_marking, IsComplete, IsSound}
 use Rattle.nego_model.specs.Joining.{Relation, RelationTest, By, Entry, steps_of, AreRelated, Joins, EndsWith, Runs}
 use Rattle.nego_model.specs.Projection.{AreApart, projection, own_entries, ready_behind}
 use Rattle.nego_model.specs.Reaching.{EndsAtLast}
 use Rattle.nego_model.specs.Acyclic.{IsForwardOrder, IsRankedBy}
+use Rattle.nego_model.specs.Reduced.{IsReduced, IsClosable}
 use Rattle.nego_model.specs.Locality.{IsLocal}
 use Rattle.nego_model.specs.Expression.{PlainNode, Means, Meaning, Relates}
 
@@ -89,3 +91,12 @@ OwnEntriesProject = (nego : Negotiation) (a : ℕ) (history : List Entry) → st
 -- A forward order ranks its negotiation.
 abbrev pub ForwardOrdersRank : Type 0
 ForwardOrdersRank = (nego : Negotiation) (order : List ℕ) → IsNegotiation nego → IsForwardOrder nego order → IsRankedBy nego order
+
+-- A sound negotiation whose first atom is the last has no other.
+abbrev pub FirstAndLastIsAlone : Type 0
+FirstAndLastIsAlone = (nego : Negotiation) → IsNegotiation nego → IsSound nego → nego.first ≡ nego.last → (n : ℕ) → IsTrue (is_in n nego.atoms) → n ≡ nego.last
+
+-- A sound deterministic negotiation that an order ranks, and that is reduced, is closable where its first atom isn't
+-- the last.
+abbrev pub ReducedIsClosable : Type 0
+ReducedIsClosable = (nego : Negotiation) (order : List ℕ) → IsNegotiation nego → IsDeterministic nego → IsSound nego → IsRankedBy nego order → IsReduced nego → nego.first ≢ nego.last → IsClosable nego

@@ -4,6 +4,7 @@ pub mod Projection
 pub mod Joining
 pub mod Reaching
 pub mod Acyclic
+pub mod Reduced
 pub mod Locality
 pub mod Expression
 pub mod Diagram

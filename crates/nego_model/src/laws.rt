@@ -1,6 +1,6 @@
 //! Laws over the definitions. Each function does nothing; its clause is the law.
 
-ghost use Rattle.nego_model.specs.Laws.{CompleteRunsEndWithTheLastAtom, JoinsThroughBetween, OlderNodesKeepTheirMeaning, CompleteRunsPassEveryoneAtTheLastAtom, StepsApartCommute, StepsApartJoinTheSame, NeighboursChangePlaces, NeighboursKeepJoinedData, NeighboursKeepEntries, NeighboursKeepProjections, ReadinessFollowsFromTheProjection, SameProjectionsLeaveTheSame, OwnEntriesProject, ForwardOrdersRank};
+ghost use Rattle.nego_model.specs.Laws.{CompleteRunsEndWithTheLastAtom, JoinsThroughBetween, OlderNodesKeepTheirMeaning, CompleteRunsPassEveryoneAtTheLastAtom, StepsApartCommute, StepsApartJoinTheSame, NeighboursChangePlaces, NeighboursKeepJoinedData, NeighboursKeepEntries, NeighboursKeepProjections, ReadinessFollowsFromTheProjection, SameProjectionsLeaveTheSame, OwnEntriesProject, ForwardOrdersRank, FirstAndLastIsAlone, ReducedIsClosable};
 
 /// A complete run isn't empty, and its last entry is of the last atom.
 pub fn complete_runs_end_with_the_last_atom()
@@ -50,4 +50,11 @@ pub fn readiness_follows_from_the_projection()
 /// A forward order gives ranks: each edge leads to an atom of a greater rank.
 pub fn forward_orders_rank()
     ensures { ForwardOrdersRank }
+{}
+
+/// What is left of a sound deterministic negotiation whose edges go forward, when no two outcomes merge and no outcome
+/// enters an atom of one outcome: the last atom alone, or the first and the last, which close.
+pub fn reduced_negotiations_close()
+    ensures alone { FirstAndLastIsAlone }
+    ensures closable { ReducedIsClosable }
 {}

@@ -7,24 +7,11 @@ use Rattle.nego_base.proofs.Members.{in_or_not, is_in-head, is_in_single, rising
 use Rattle.nego_model.specs.Negotiation.{Negotiation, IsNegotiation, IsDeterministic, IsOutcome}
 use Rattle.nego_model.specs.Occurring.{PlainMarking, ready, moved, enables, after, IsSound, CanOccur}
 use Rattle.nego_model.specs.Acyclic.{IsEdge}
+use Rattle.nego_model.specs.Reduced.{HasOne, Enters, IsReduced}
 use Rattle.nego_model.proofs.occurrence.Markings.{enables-party}
 use Rattle.nego_model.proofs.occurrence.Steps.{after_from, length-run}
 use Rattle.nego_model.proofs.occurrence.Reached.{Leads, Leads_through}
 use Rattle.nego_model.proofs.completeness.Ahead.{IsReached, ready-after_party, ready-after_other, reached-after, reached-led, reached-below, comes, walks, last_comes, never_comes, first_is_least}
-
--- Each two outcomes of the atom are one.
-abbrev pub HasOne : Negotiation → ℕ → Type 0
-HasOne nego n = (x y : ℕ) → IsTrue (is_in x (nego.outcomes n)) → IsTrue (is_in y (nego.outcomes n)) → x ≡ y
-
--- The outcome sends each party of the atom there, and each is a party of the outcome's atom.
-abbrev pub Enters : Negotiation → (n x p : ℕ) → Type 0
-Enters nego n x p = (a : ℕ) → IsTrue (is_in a (nego.parties p)) → IsTrue (is_in a (nego.parties n)) × (nego.next x a ≡ p ∷ [])
-
--- No two outcomes of an atom but the last send each party to the same atom, and no outcome enters another atom that has
--- one outcome and is neither the first nor the last.
-pub record IsReduced (nego : Negotiation) : Type 0 where
-  pub no_merge : (n x y : ℕ) → n ≢ nego.last → IsOutcome nego n x → IsOutcome nego n y → x ≢ y → ¬ ((a : ℕ) → IsTrue (is_in a (nego.parties n)) → nego.next x a ≡ nego.next y a)
-  pub no_shortcut : (n x p : ℕ) → IsOutcome nego n x → IsTrue (is_in p nego.atoms) → n ≢ p → p ≢ nego.first → p ≢ nego.last → HasOne nego p → ¬ Enters nego n x p
 
 -- The two outcomes send this party of the atom to different atoms.
 pub record PartsAt (nego : Negotiation) (n x y a : ℕ) : Type 0 where

@@ -1,6 +1,6 @@
 -- What is left of a sound negotiation of which no two outcomes merge and no outcome enters an atom of one outcome: the last
 -- atom alone, or the first and the last.
-use Rattle.std.proofs.Common.{◌≡◌, ◌≢◌, ◌⊎◌, inl, inr, ⊎_elim, ℕ, ◌<◌, List, [], ◌∷◌, replicate, Some, IsTrue, refl, sym, subst, ap, ◌∙◌, arith}
+use Rattle.std.proofs.Common.{◌≡◌, ◌≢◌, ◌⊎◌, inl, inr, ⊎_elim, ℕ, ◌<◌, List, [], ◌∷◌, length, replicate, Some, IsTrue, refl, sym, subst, ap, ◌∙◌, arith}
 use Rattle.std.proofs.lemmas.Bool.{cases_eq}
 use Rattle.std.proofs.lemmas.Option.{same_Some}
 use Rattle.nego_base.specs.Members.{is_in}
@@ -8,22 +8,16 @@ use Rattle.nego_base.proofs.Members.{is_in-head, is_in_none, is_in_single, some_
 use Rattle.nego_model.specs.Negotiation.{Negotiation, IsNegotiation, IsDeterministic, IsOutcome}
 use Rattle.nego_model.specs.Occurring.{PlainMarking, Occurrence, ready, moved, enables, after, leaves, opening_marking, final_marking, IsSound}
 use Rattle.nego_model.specs.Reaching.{all_at_last}
-use Rattle.nego_model.specs.Acyclic.{IsEdge}
+use Rattle.nego_model.specs.Acyclic.{IsEdge, rank_in, IsRankedBy}
+use Rattle.nego_model.specs.Reduced.{HasOne, IsReduced, IsClosable}
 use Rattle.nego_model.proofs.occurrence.Markings.{ready-replicate, enables-atom, enables-party}
 use Rattle.nego_model.proofs.occurrence.Steps.{after-some, after-outcome, after_from, leaves-first}
 use Rattle.nego_model.proofs.occurrence.Reached.{Leads, Leads-itself}
 use Rattle.nego_model.proofs.occurrence.Gathered.{all_ready-enabled, all_ready-enables, after_gathered, after_nothing_ready, after_all_sent}
 use Rattle.nego_model.proofs.occurrence.Ways.{after_all_at_last, sound_leads}
 use Rattle.nego_model.proofs.completeness.Ahead.{IsReached, ready-after_party, reached-after, reached-below}
-use Rattle.nego_model.proofs.completeness.Branching.{HasOne, IsReduced, sent, all_have_one}
-
--- The first atom has one outcome, which sends everyone to the last, and there are no other atoms.
-pub record IsClosable (nego : Negotiation) : Type 0 where
-  pub outcome : ℕ
-  pub own : IsOutcome nego nego.first outcome
-  pub one : HasOne nego nego.first
-  pub sends : (a : ℕ) → a < nego.agents → nego.next outcome a ≡ nego.last ∷ []
-  pub atoms : (n : ℕ) → IsTrue (is_in n nego.atoms) → (n ≡ nego.first) ⊎ (n ≡ nego.last)
+use Rattle.nego_model.proofs.completeness.Branching.{sent, all_have_one}
+use Rattle.nego_model.proofs.completeness.Ranks.{ranked}
 
 module _ (nego : Negotiation) (ok : IsNegotiation nego) where
   -- behind the final marking nothing is enabled
@@ -152,3 +146,8 @@ module _ (nego : Negotiation) (ok : IsNegotiation nego) (single : IsDeterministi
           let gathered : k.0 ≡ all_at_last nego =
           same_Some k.0 (all_at_last nego) (sym occurred ∙ after_all_sent nego ok nego.first o (nego.first ∷ []) (nego.last ∷ []) ok.first_there (is_in-head nego.first []) own.1 (λ a l. (ok.all_begin a l, everyone a l))) in
           inr (from_last nego ok steps marking n (subst (λ m. leaves nego m steps ≡ Some marking) gathered k.2) h)
+
+-- a sound negotiation that is ranked and reduced is closable, where its first atom isn't the last
+pub ranked-closable : (nego : Negotiation) (order : List ℕ) → IsNegotiation nego → IsDeterministic nego → IsSound nego → IsRankedBy nego order → IsReduced nego → nego.first ≢ nego.last → IsClosable nego
+ranked-closable nego order ok single sound ranks reduced apart =
+    closable nego ok single sound (rank_in order) ranks.forward (length order) (λ n there. (ranked n order (ranks.atoms n there)).0) reduced apart
