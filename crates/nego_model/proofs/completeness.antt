@@ -1,5 +1,6 @@
 -- What a sound negotiation comes to.
 pub mod Ranks
+pub mod Paths
 pub mod Ahead
 pub mod Branching
 pub mod Closable

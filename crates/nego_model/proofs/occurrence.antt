@@ -5,6 +5,7 @@ pub mod Joined
 pub mod Reached
 pub mod CompleteRuns
 pub mod Proper
+pub mod ReachedMarkings
 pub mod Ways
 pub mod Gathered
 pub mod Commuting

@@ -5,6 +5,7 @@ pub mod Joining
 pub mod Reaching
 pub mod Acyclic
 pub mod Reduced
+pub mod Policy
 pub mod Locality
 pub mod Expression
 pub mod Diagram

@@ -10,45 +10,12 @@ use Rattle.nego_model.specs.Occurring.{PlainMarking, Occurrence, ready, moved, e
 use Rattle.nego_model.specs.Acyclic.{IsEdge}
 use Rattle.nego_model.proofs.occurrence.Markings.{ready-moved_party, ready-moved_other, ready-replicate, enables-atom, enables-party}
 use Rattle.nego_model.proofs.occurrence.Steps.{after-some, after_from, length-after, length-run, leaves-first, leaves_before, last_entry}
+use Rattle.nego_model.proofs.occurrence.ReachedMarkings.{IsReached, ready-after_party, ready-after_other, reached-after, reached-led, reached-below, reached-single}
 use Rattle.nego_model.proofs.occurrence.Reached.{Leads, Leads-itself, Leads_one, Leads_through}
 use Rattle.nego_model.proofs.occurrence.CompleteRuns.{last_from_final}
 use Rattle.nego_model.proofs.occurrence.Proper.{IsSingle, opening-single, leaves-single}
 use Rattle.nego_model.proofs.occurrence.Ways.{sound_leads}
 use Rattle.nego_model.proofs.simulation.Simulations.{Lasts, Lasts-led}
-
--- The opening marking leads to it.
-abbrev pub IsReached : Negotiation → PlainMarking → Type 0
-IsReached nego marking = Leads nego (opening_marking nego) marking
-
--- a party of what has occurred is ready for its next atoms
-pub ready-after_party : (nego : Negotiation) (marking left : PlainMarking) (step : Occurrence) (a : ℕ) → a < length marking → after nego marking step ≡ Some left → IsTrue (is_in a (nego.parties step.0)) →
-    ready left a ≡ nego.next step.1 a
-ready-after_party nego marking left step a below e party =
-    ap (λ m. ready m a) (sym (after-some nego marking step left e).2) ∙ ready-moved_party (nego.parties step.0) (nego.next step.1) marking a below party
-
--- who is no party is ready for the same as before
-pub ready-after_other : (nego : Negotiation) (marking left : PlainMarking) (step : Occurrence) (a : ℕ) → a < length marking → after nego marking step ≡ Some left → ¬ IsTrue (is_in a (nego.parties step.0)) →
-    ready left a ≡ ready marking a
-ready-after_other nego marking left step a below e other =
-    ap (λ m. ready m a) (sym (after-some nego marking step left e).2) ∙ ready-moved_other (nego.parties step.0) (nego.next step.1) marking a below other
-
-module _ (nego : Negotiation) where
-  -- what an occurrence leaves is reached
-  pub reached-after : (marking left : PlainMarking) (step : Occurrence) → IsReached nego marking → after nego marking step ≡ Some left → IsReached nego left
-  reached-after marking left step h e = Leads_through nego (opening_marking nego) marking left h (Leads_one nego marking left step e)
-
-  -- what a reached marking leads to is reached
-  pub reached-led : (from to : PlainMarking) → IsReached nego from → Leads nego from to → IsReached nego to
-  reached-led from to h way = Leads_through nego (opening_marking nego) from to h way
-
-  -- a reached marking has a list for each agent
-  pub reached-below : (marking : PlainMarking) (a : ℕ) → IsReached nego marking → a < nego.agents → a < length marking
-  reached-below marking a h below = subst (λ count. a < count) (sym (length-run nego h.steps marking h.leads)) below
-
-  -- in it each agent is ready for one atom at most
-  pub reached-single : IsDeterministic nego → (marking : PlainMarking) → IsReached nego marking → IsSingle nego marking
-  reached-single single marking h =
-      leaves-single nego single (opening_marking nego) marking h.steps (length-replicate nego.agents (nego.first ∷ [])) (opening-single nego) h.leads
 
 -- ---- what an agent will come to
 

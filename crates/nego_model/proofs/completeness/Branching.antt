@@ -11,7 +11,8 @@ use Rattle.nego_model.specs.Reduced.{HasOne, Enters, IsReduced}
 use Rattle.nego_model.proofs.occurrence.Markings.{enables-party}
 use Rattle.nego_model.proofs.occurrence.Steps.{after_from, length-run}
 use Rattle.nego_model.proofs.occurrence.Reached.{Leads, Leads_through}
-use Rattle.nego_model.proofs.completeness.Ahead.{IsReached, ready-after_party, ready-after_other, reached-after, reached-led, reached-below, comes, walks, last_comes, never_comes, first_is_least}
+use Rattle.nego_model.proofs.occurrence.ReachedMarkings.{IsReached, ready-after_party, ready-after_other, reached-after, reached-led, reached-below}
+use Rattle.nego_model.proofs.completeness.Ahead.{comes, walks, last_comes, never_comes, first_is_least}
 
 -- The two outcomes send this party of the atom to different atoms.
 pub record PartsAt (nego : Negotiation) (n x y a : ℕ) : Type 0 where

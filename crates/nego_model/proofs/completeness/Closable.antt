@@ -15,7 +15,7 @@ use Rattle.nego_model.proofs.occurrence.Steps.{after-some, after-outcome, after_
 use Rattle.nego_model.proofs.occurrence.Reached.{Leads, Leads-itself}
 use Rattle.nego_model.proofs.occurrence.Gathered.{all_ready-enabled, all_ready-enables, after_gathered, after_nothing_ready, after_all_sent}
 use Rattle.nego_model.proofs.occurrence.Ways.{after_all_at_last, sound_leads}
-use Rattle.nego_model.proofs.completeness.Ahead.{IsReached, ready-after_party, reached-after, reached-below}
+use Rattle.nego_model.proofs.occurrence.ReachedMarkings.{IsReached, ready-after_party, reached-after, reached-below}
 use Rattle.nego_model.proofs.completeness.Branching.{sent, all_have_one}
 use Rattle.nego_model.proofs.completeness.Ranks.{ranked}
 
