@@ -1,6 +1,7 @@
 -- What a sound negotiation comes to.
 pub mod Ranks
 pub mod Paths
+pub mod Policies
 pub mod Ahead
 pub mod Branching
 pub mod Closable
