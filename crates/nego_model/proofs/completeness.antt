@@ -3,6 +3,7 @@ pub mod Ranks
 pub mod Paths
 pub mod Policies
 pub mod Nearest
+pub mod OneWayOut
 pub mod Ahead
 pub mod Branching
 pub mod Closable

@@ -15,6 +15,10 @@ SendAlike nego n x y = (a : ℕ) → IsTrue (is_in a (nego.parties n)) → nego.
 abbrev pub Enters : Negotiation → (n x p : ℕ) → Type 0
 Enters nego n x p = (a : ℕ) → IsTrue (is_in a (nego.parties p)) → IsTrue (is_in a (nego.parties n)) × (nego.next x a ≡ p ∷ [])
 
+-- An outcome of an atom enters no atom.
+abbrev pub EntersNone : Negotiation → (n x : ℕ) → Type 0
+EntersNone nego n x = (p : ℕ) → IsTrue (is_in p nego.atoms) → ¬ Enters nego n x p
+
 -- No two outcomes of an atom but the last send alike, and no outcome enters another atom that has one outcome and is
 -- neither the first nor the last.
 pub record IsReduced (nego : Negotiation) : Type 0 where
