@@ -4,6 +4,5 @@ pub mod Paths
 pub mod Policies
 pub mod Nearest
 pub mod OneWayOut
-pub mod Ahead
 pub mod Branching
 pub mod Closable

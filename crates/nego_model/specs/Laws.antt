@@ -1,15 +1,17 @@
 -- Laws over the definitions, each proved as the clause of a public function.
 use Rattle.std.specs.Prelude.{◌≡◌, ◌≢◌, ◌↔◌, ℕ, ◌<◌, List, [], ◌∷◌, ◌++◌, length, Some, IsTrue}
+use Rattle.std.specs.List.{AllPairs}
 use Rattle.nego_base.specs.Members.{is_in}
 use Rattle.nego_data.specs.Data.{data_count}
 use Rattle.nego_data.specs.Locality.{AgreeOn}
-use Rattle.nego_model.specs.Negotiation.{Negotiation, IsNegotiation, IsDeterministic}
+use Rattle.nego_model.specs.Negotiation.{Negotiation, IsNegotiation, IsDeterministic, IsOutcome}
 use Rattle.nego_model.specs.Occurring.{PlainMarking, Occurrence, ready, after, leaves, opening_marking, IsComplete, IsSound}
 use Rattle.nego_model.specs.Joining.{Relation, RelationTest, By, Entry, steps_of, AreRelated, Joins, EndsWith, Runs}
 use Rattle.nego_model.specs.Projection.{AreApart, projection, own_entries, ready_behind}
 use Rattle.nego_model.specs.Reaching.{EndsAtLast}
 use Rattle.nego_model.specs.Acyclic.{IsForwardOrder, IsRankedBy}
-use Rattle.nego_model.specs.Reduced.{IsReduced, IsClosable}
+use Rattle.nego_model.specs.Reduced.{SendAlike, EntersNone, IsReduced, IsClosable}
+use Rattle.nego_model.specs.Policy.{Policy, IsCompletedBy}
 use Rattle.nego_model.specs.Locality.{IsLocal}
 use Rattle.nego_model.specs.Expression.{PlainNode, Means, Meaning, Relates}
 
@@ -100,3 +102,25 @@ FirstAndLastIsAlone = (nego : Negotiation) → IsNegotiation nego → IsSound ne
 -- the last.
 abbrev pub ReducedIsClosable : Type 0
 ReducedIsClosable = (nego : Negotiation) (order : List ℕ) → IsNegotiation nego → IsDeterministic nego → IsSound nego → IsRankedBy nego order → IsReduced nego → nego.first ≢ nego.last → IsClosable nego
+
+-- A sound deterministic negotiation has a policy, and occurrences by any policy lead from each marking that a run leaves
+-- to the final one.
+abbrev pub PoliciesComplete : Type 0
+PoliciesComplete = (nego : Negotiation) → IsNegotiation nego → IsDeterministic nego → IsSound nego →
+    Policy nego
+    × ((policy : Policy nego) (run : List Occurrence) (marking : PlainMarking) → leaves nego (opening_marking nego) run ≡ Some marking → (steps : List Occurrence) × IsCompletedBy nego policy.choice marking steps)
+
+-- In chosen occurrences from a marking that a run leaves to the final one no atom occurs twice.
+abbrev pub ChosenAtomsOccurOnce : Type 0
+ChosenAtomsOccurOnce = (nego : Negotiation) (choice : ℕ → ℕ) (run steps : List Occurrence) (marking : PlainMarking) → IsNegotiation nego → IsDeterministic nego →
+    leaves nego (opening_marking nego) run ≡ Some marking → IsCompletedBy nego choice marking steps → AllPairs (λ one two. one.0 ≢ two.0) steps
+
+-- What an agent sees of them follows from what it is ready for.
+abbrev pub ChosenPathsDependOnThePlace : Type 0
+ChosenPathsDependOnThePlace = (nego : Negotiation) (choice : ℕ → ℕ) (run run' steps steps' : List Occurrence) (marking marking' : PlainMarking) (a : ℕ) → IsNegotiation nego → IsDeterministic nego → a < nego.agents →
+    leaves nego (opening_marking nego) run ≡ Some marking → leaves nego (opening_marking nego) run' ≡ Some marking' → IsCompletedBy nego choice marking steps → IsCompletedBy nego choice marking' steps' →
+    ready marking a ≡ ready marking' a → projection nego a steps ≡ projection nego a steps'
+
+-- In a sound deterministic negotiation, cyclic ones too, outcomes of an atom that enter no atom send alike.
+abbrev pub OneWayOut : Type 0
+OneWayOut = (nego : Negotiation) (n x y : ℕ) → IsNegotiation nego → IsDeterministic nego → IsSound nego → IsOutcome nego n x → IsOutcome nego n y → EntersNone nego n x → EntersNone nego n y → SendAlike nego n x y

@@ -1,6 +1,6 @@
 //! Laws over the definitions. Each function does nothing; its clause is the law.
 
-ghost use Rattle.nego_model.specs.Laws.{CompleteRunsEndWithTheLastAtom, JoinsThroughBetween, OlderNodesKeepTheirMeaning, CompleteRunsPassEveryoneAtTheLastAtom, StepsApartCommute, StepsApartJoinTheSame, NeighboursChangePlaces, NeighboursKeepJoinedData, NeighboursKeepEntries, NeighboursKeepProjections, ReadinessFollowsFromTheProjection, SameProjectionsLeaveTheSame, OwnEntriesProject, ForwardOrdersRank, FirstAndLastIsAlone, ReducedIsClosable};
+ghost use Rattle.nego_model.specs.Laws.{CompleteRunsEndWithTheLastAtom, JoinsThroughBetween, OlderNodesKeepTheirMeaning, CompleteRunsPassEveryoneAtTheLastAtom, StepsApartCommute, StepsApartJoinTheSame, NeighboursChangePlaces, NeighboursKeepJoinedData, NeighboursKeepEntries, NeighboursKeepProjections, ReadinessFollowsFromTheProjection, SameProjectionsLeaveTheSame, OwnEntriesProject, ForwardOrdersRank, FirstAndLastIsAlone, ReducedIsClosable, PoliciesComplete, ChosenAtomsOccurOnce, ChosenPathsDependOnThePlace, OneWayOut};
 
 /// A complete run isn't empty, and its last entry is of the last atom.
 pub fn complete_runs_end_with_the_last_atom()
@@ -50,6 +50,21 @@ pub fn readiness_follows_from_the_projection()
 /// A forward order gives ranks: each edge leads to an atom of a greater rank.
 pub fn forward_orders_rank()
     ensures { ForwardOrdersRank }
+{}
+
+/// A sound deterministic negotiation has a policy: for each atom an outcome, and a party whom this sends nearer to the
+/// last atom. Occurrences by it lead from each marking that a run leaves to the final one. No atom occurs twice in them,
+/// and an agent's path depends on its place alone.
+pub fn policies_complete()
+    ensures completes { PoliciesComplete }
+    ensures once { ChosenAtomsOccurOnce }
+    ensures paths { ChosenPathsDependOnThePlace }
+{}
+
+/// In a sound deterministic negotiation, cyclic ones too, two outcomes of an atom send each party alike, where neither
+/// sends all parties of some atom there from this atom alone.
+pub fn outcomes_that_enter_none_send_alike()
+    ensures { OneWayOut }
 {}
 
 /// What is left of a sound deterministic negotiation whose edges go forward, when no two outcomes merge and no outcome

@@ -1,16 +1,16 @@
 -- In a sound deterministic negotiation, cyclic ones too, two outcomes of an atom that enter no atom send alike.
-use Rattle.std.proofs.Common.{◌≡◌, ◌≢◌, ◌⊎◌, inl, inr, ⊎_elim, ℕ, suc, ◌<◌, ◌≤◌, List, [], ◌∷◌, ◌++◌, length, slice_index_or, drop, Some, IsTrue, refl, sym, subst, ap, ◌∙◌, arith, append_assoc, append-nil, length-append}
+use Rattle.std.proofs.Common.{◌≡◌, ⊎_elim, ℕ, ◌<◌, List, [], ◌∷◌, ◌++◌, length, Some, IsTrue, refl, sym, subst, ap, ◌∙◌, arith, append_assoc, append-nil, length-append}
 use Rattle.nego_base.specs.Members.{is_in}
 use Rattle.nego_base.proofs.Members.{in_or_not, is_in-cases, is_in_none, is_in-head, is_in-tail, is_in_single}
 use Rattle.nego_model.specs.Negotiation.{Negotiation, IsNegotiation, IsDeterministic, IsOutcome}
 use Rattle.nego_model.specs.Occurring.{PlainMarking, Occurrence, ready, moved, after, leaves, final_marking, IsSound, CanOccur}
 use Rattle.nego_model.specs.Projection.{projection}
-use Rattle.nego_model.specs.Reduced.{SendAlike, Enters, EntersNone}
+use Rattle.nego_model.specs.Reduced.{SendAlike, EntersNone}
 use Rattle.nego_model.specs.Policy.{Policy, IsCompletedBy}
 use Rattle.nego_model.proofs.occurrence.Markings.{enables-atom}
 use Rattle.nego_model.proofs.occurrence.Steps.{after-some, after_from, leaves_between, leaves-first, last_entry}
 use Rattle.nego_model.proofs.occurrence.ReachedMarkings.{IsReached, ready-after_party, ready-after_other, reached-after, reached-below}
-use Rattle.nego_model.proofs.completeness.Paths.{atoms_of, among_atoms, IsPath, path-unique, path_from, path_goes_on, path-seen, projection_at, seen_among, seen_occurs}
+use Rattle.nego_model.proofs.completeness.Paths.{atoms_of, among_atoms, IsPath, path-unique, path_goes_on, path-seen, projection_at, seen_among, seen_occurs}
 use Rattle.nego_model.proofs.completeness.Policies.{completed}
 use Rattle.nego_model.proofs.completeness.Nearest.{nearest}
 

@@ -1,6 +1,6 @@
 -- What one agent sees of occurrences that are chosen and lead to the final marking: it follows from the atom at which
 -- the agent is. So no atom occurs twice in them.
-use Rattle.std.proofs.Common.{◌≡◌, ◌≢◌, ⊎_elim, ℕ, suc, ◌<◌, ◌≤◌, List, [], ◌∷◌, ◌++◌, length, map, slice_index_or, Some, All, IsTrue, refl, sym, subst, ap, ap₂, ◌∙◌, arith, append_assoc, length-append}
+use Rattle.std.proofs.Common.{◌≡◌, ◌≢◌, ⊎_elim, ℕ, ◌<◌, List, [], ◌∷◌, ◌++◌, length, map, slice_index_or, All, IsTrue, refl, sym, subst, ap, ap₂, ◌∙◌, arith, length-append}
 use Rattle.std.proofs.lemmas.Bool.{cond-true, cond-false, false_from_ne_true}
 use Rattle.std.proofs.lemmas.Option.{same_Some}
 use Rattle.std.proofs.lemmas.List.Elements.{All-nil, All-cons, All-head, All-tail}
@@ -8,9 +8,9 @@ use Rattle.std.specs.List.{AllPairs}
 use Rattle.nego_base.specs.Members.{is_in}
 use Rattle.nego_base.proofs.Members.{in_or_not, is_in-cases, is_in_none, is_in-head, is_in-tail, some_member}
 use Rattle.nego_model.specs.Negotiation.{Negotiation, IsNegotiation, IsDeterministic}
-use Rattle.nego_model.specs.Occurring.{PlainMarking, Occurrence, ready, after, leaves, final_marking}
+use Rattle.nego_model.specs.Occurring.{PlainMarking, Occurrence, ready, final_marking}
 use Rattle.nego_model.specs.Projection.{projection}
-use Rattle.nego_model.specs.Policy.{AreChosen, IsCompletedBy}
+use Rattle.nego_model.specs.Policy.{IsCompletedBy}
 use Rattle.nego_model.proofs.PairLaws.{AllPairs-cons}
 use Rattle.nego_model.proofs.occurrence.Markings.{ready-replicate, enables-atom, enables-party}
 use Rattle.nego_model.proofs.occurrence.Steps.{after-some, leaves-first}

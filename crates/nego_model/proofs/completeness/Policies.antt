@@ -1,17 +1,15 @@
 -- Occurrences by a policy come to an end: in a sound deterministic negotiation they lead from each reached marking to the
 -- final one.
-use Rattle.std.proofs.Common.{◌≡◌, ◌≢◌, ◌⊎◌, inl, inr, ⊎_elim, ℕ, zero, suc, ◌+◌, ◌<◌, ◌≤◌, cond, if◌then◌else◌, List, [], ◌∷◌, length, Some, IsTrue, refl, sym, subst, ap, ◌∙◌, arith}
+use Rattle.std.proofs.Common.{◌≡◌, ◌≢◌, ◌⊎◌, inl, inr, ⊎_elim, ℕ, zero, suc, ◌+◌, ◌<◌, ◌≤◌, if◌then◌else◌, List, [], ◌∷◌, length, Some, IsTrue, refl, sym, subst, ap, ◌∙◌, arith}
 use Rattle.std.proofs.lemmas.Bool.{cases_eq, cond-true, cond-false, false_from_ne_true}
-use Rattle.std.proofs.lemmas.Option.{same_Some}
 use Rattle.std.proofs.lemmas.List.Elements.{All-nil, All-cons, All-head, All-tail}
 use Rattle.nego_base.specs.Members.{is_in}
 use Rattle.nego_base.proofs.Members.{in_or_not, is_in-cases, is_in_none, is_in-head, is_in-tail, is_in_single, rising-single}
 use Rattle.nego_model.specs.Negotiation.{Negotiation, IsNegotiation, IsDeterministic, IsOutcome}
-use Rattle.nego_model.specs.Occurring.{PlainMarking, Occurrence, ready, moved, enables, after, leaves, final_marking, IsSound}
+use Rattle.nego_model.specs.Occurring.{PlainMarking, Occurrence, ready, moved, after, leaves, final_marking, IsSound}
 use Rattle.nego_model.specs.Policy.{Policy, AreChosen, IsCompletedBy}
 use Rattle.nego_model.proofs.occurrence.Markings.{enables-atom, enables-party}
 use Rattle.nego_model.proofs.occurrence.Steps.{after-some, after_from, leaves-first, leaves_from_first}
-use Rattle.nego_model.proofs.occurrence.Reached.{Leads}
 use Rattle.nego_model.proofs.occurrence.ReachedMarkings.{IsReached, ready-after_party, ready-after_other, reached-after, reached-below}
 use Rattle.nego_model.proofs.occurrence.Ways.{sound_leads}
 
@@ -94,9 +92,9 @@ module _ (nego : Negotiation) (ok : IsNegotiation nego) (single : IsDeterministi
     between_itself : IsTrue (is_in (policy.guide n) (nego.parties step.0)) → step.0 ≡ n → Between n from (step ∷ steps)
     between_itself party same = (
       let one = times-in (n ∷ []) step steps (subst (λ m. IsTrue (is_in step.0 (m ∷ []))) same (is_in-head step.0 [])) in
-      let none = times-out (targets n) step steps back in
-      let rest = more.1 waits in
-      omega (arith, one, none, rest),
+          let none = times-out (targets n) step steps back in
+          let rest = more.1 waits in
+          omega (arith, one, none, rest),
       λ waits'. absurd (back (subst (λ here. IsTrue (is_in step.0 here)) waits' (enables-party nego from step.0 (policy.guide n) (after-some nego from step to e).0 party))),
     )
       where
@@ -213,10 +211,13 @@ module _ (nego : Negotiation) (ok : IsNegotiation nego) (single : IsDeterministi
             let occurs : after nego from chosen ≡ Some next = after_from nego from chosen enabled (policy.own step.0 (enables-atom nego from step.0 enabled)) in
             ⊎_elim
             (λ done.
-            inl (chosen ∷ done.0, record {
-              chosen = All-cons (λ s. s.1 ≡ policy.choice s.0) chosen done.0 refl done.1.chosen;
-              ends = leaves_from_first nego from chosen done.0 next occurs ∙ done.1.ends;
-            }))
+            inl (
+              chosen ∷ done.0,
+              record {
+                chosen = All-cons (λ s. s.1 ≡ policy.choice s.0) chosen done.0 refl done.1.chosen;
+                ends = leaves_from_first nego from chosen done.0 next occurs ∙ done.1.ends;
+              },
+            ))
             (λ more.
             inr (
               chosen ∷ more.0,

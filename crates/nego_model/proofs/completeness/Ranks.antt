@@ -1,10 +1,16 @@
--- The ranks that a forward order gives to atoms: each edge leads to an atom of a greater rank.
-use Rattle.std.proofs.Common.{◌≡◌, ◌≢◌, ⊎_elim, ℕ, ◌+◌, ◌<◌, ◌==◌, if◌then◌else◌, List, [], ◌∷◌, length, get_or, IsTrue, suc, refl, sym, subst, ap, ◌∙◌, arith, eq-eqb, ne_eqb}
+-- The ranks that an order gives to atoms: each edge leads to an atom of a greater rank.
+use Rattle.std.proofs.Common.{◌≡◌, ◌≢◌, ⊎_elim, ℕ, ◌+◌, ◌<◌, ◌≤◌, ◌==◌, List, [], ◌∷◌, length, get_or, Some, IsTrue, suc, refl, sym, subst, ap, ◌∙◌, arith, eq-eqb, ne_eqb}
 use Rattle.std.proofs.lemmas.Bool.{cases_eq, cases_order, cond-true, cond-false}
+use Rattle.std.proofs.lemmas.List.{length-replicate}
 use Rattle.nego_base.specs.Members.{is_in}
-use Rattle.nego_base.proofs.Members.{is_in-cases, is_in_none}
+use Rattle.nego_base.proofs.Members.{in_or_not, is_in-cases, is_in_none, is_in_single}
 use Rattle.nego_model.specs.Negotiation.{Negotiation, IsNegotiation}
+use Rattle.nego_model.specs.Occurring.{PlainMarking, Occurrence, ready, after, opening_marking}
 use Rattle.nego_model.specs.Acyclic.{IsEdge, IsForwardOrder, rank_in, IsRankedBy}
+use Rattle.nego_model.proofs.occurrence.Markings.{ready-replicate, enables-atom, enables-party}
+use Rattle.nego_model.proofs.occurrence.Steps.{after-some, length-after}
+use Rattle.nego_model.proofs.occurrence.ReachedMarkings.{IsReached, ready-after_party, ready-after_other}
+use Rattle.nego_model.proofs.simulation.Simulations.{Lasts, Lasts-led}
 
 -- a member stands at its place
 pub ranked : (n : ℕ) (order : List ℕ) → IsTrue (is_in n order) → (rank_in order n < length order) × ((d : ℕ) → get_or order (rank_in order n) d ≡ n)
@@ -54,3 +60,40 @@ module _ (nego : Negotiation) (ok : IsNegotiation nego) (order : List ℕ) (goes
 -- a forward order ranks its negotiation
 pub order-ranks : (nego : Negotiation) (order : List ℕ) → IsNegotiation nego → IsForwardOrder nego order → IsRankedBy nego order
 order-ranks nego order ok goes = record { atoms = λ n h. goes.atoms n ∙ h; forward = edge-ranked nego ok order goes }
+
+module _ (nego : Negotiation) (order : List ℕ) (ranks : IsRankedBy nego order) where
+  abbrev rank : ℕ → ℕ
+  rank n = rank_in order n
+
+  -- a next atom of what has occurred has a greater rank
+  pub goes_up : (marking left : PlainMarking) (step : Occurrence) (a q : ℕ) → after nego marking step ≡ Some left → IsTrue (is_in q (nego.next step.1 a)) → rank step.0 < rank q
+  goes_up marking left step a q e m =
+      let k = after-some nego marking step left e in
+      ranks.forward step.0 q (record { outcome = step.1; agent = a; own = (enables-atom nego marking step.0 k.0, k.1); leads = m })
+
+  -- nobody comes to an atom of a lesser rank than the first
+  pub first_is_least : (marking : PlainMarking) → IsReached nego marking → (a q : ℕ) → a < nego.agents → IsTrue (is_in q (ready marking a)) → rank nego.first ≤ rank q
+  first_is_least marking reached = (Lasts-led nego Behind lasts (opening_marking nego) marking (length-replicate nego.agents (nego.first ∷ []), opening) reached).1
+    where
+      Behind : PlainMarking → Type 0
+      Behind m = (length m ≡ nego.agents) × ((a q : ℕ) → a < nego.agents → IsTrue (is_in q (ready m a)) → rank nego.first ≤ rank q)
+
+      opening : (a q : ℕ) → a < nego.agents → IsTrue (is_in q (ready (opening_marking nego) a)) → rank nego.first ≤ rank q
+      opening a q below m =
+          let same : q ≡ nego.first = is_in_single q nego.first (subst (λ xs. IsTrue (is_in q xs)) (ready-replicate nego.agents a (nego.first ∷ []) below) m) in
+          let equal : rank q ≡ rank nego.first = ap rank same in
+          omega (arith, equal)
+
+      lasts : Lasts nego Behind
+      lasts from left step h e = (
+        length-after nego from step left e ∙ h.0,
+        λ a q below m.
+            let here : a < length from = subst (λ count. a < count) (sym h.0) below in
+            ⊎_elim
+            (λ moves.
+            let least : rank nego.first ≤ rank step.0 = h.1 a step.0 below (enables-party nego from step.0 a (after-some nego from step left e).0 moves) in
+            let up : rank step.0 < rank q = goes_up from left step a q e (subst (λ xs. IsTrue (is_in q xs)) (ready-after_party nego from left step a here e moves) m) in
+            omega (arith, least, up))
+            (λ other. h.1 a q below (subst (λ xs. IsTrue (is_in q xs)) (ready-after_other nego from left step a here e other) m))
+            (in_or_not a (nego.parties step.0)),
+      )

@@ -1,5 +1,5 @@
 -- Laws of the data along runs.
-use Rattle.std.proofs.Common.{◌≡◌, ℕ, List, [], ◌∷◌, ◌++◌, length, drop, slice_index_or, refl, sym, subst, ap, ◌∙◌, arith}
+use Rattle.std.proofs.Common.{◌≡◌, ℕ, List, [], ◌∷◌, ◌++◌, length, drop, slice_index_or, refl, sym, subst, ap, arith}
 use Rattle.nego_model.specs.Occurring.{Occurrence}
 use Rattle.nego_model.specs.Joining.{Relation, Entry, steps_of, AreRelated, joint_after, Joins}
 
