@@ -44,25 +44,3 @@ AllPairs-map R f (x ∷ xs) h i j d before within =
     let q : j < length (x ∷ xs) = omega arith in
     let p : i < length (x ∷ xs) = omega arith in
     rw (get_or-map f (x ∷ xs) i x d p, get_or-map f (x ∷ xs) j x d q) (h i j x before q)
-
--- items of one number, and behind them items of another that isn't less, are in order
-pub in_order-append : {X : Type 0} (number : X → ℕ) (low high : ℕ) (xs ys : List X) → low ≤ high → All (λ x. number x ≡ low) xs → All (λ y. number y ≡ high) ys → IsNonDecreasingBy number (xs ++ ys)
-in_order-append {X} number low high xs ys below one two i j d before within = ⊎_elim first rest (cases_lt i (length xs))
-  where
-    at_one : (k : ℕ) → k < length xs → number (get_or (xs ++ ys) k d) ≡ low
-    at_one k h = ap number (get_or_append_left xs ys d k h) ∙ one k d h
-
-    at_two : (k : ℕ) → length xs ≤ k → k < length (xs ++ ys) → number (get_or (xs ++ ys) k d) ≡ high
-    at_two k h l = ap number (get_or-append_right xs ys (length xs) k d refl h) ∙ two (k - length xs) d (omega (arith, length-append xs ys))
-
-    first : i < length xs → number (get_or (xs ++ ys) i d) ≤ number (get_or (xs ++ ys) j d)
-    first h = ⊎_elim
-        (λ k. let e = at_one i h in let f = at_one j k in omega arith)
-        (λ k. let e = at_one i h in let f = at_two j k within in omega arith)
-        (cases_lt j (length xs))
-
-    rest : length xs ≤ i → number (get_or (xs ++ ys) i d) ≤ number (get_or (xs ++ ys) j d)
-    rest h =
-        let k : length xs ≤ j = omega arith in
-        let l : i < length (xs ++ ys) = omega arith in
-        let e = at_two i h l in let f = at_two j k within in omega arith

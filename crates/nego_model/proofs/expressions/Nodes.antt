@@ -65,15 +65,6 @@ module _ (base : Relation) where
       let o = Means-older nodes node i d e h in
       (λ m. o.0 (k.0 (subst (λ ns. Means base ns i d e) (sym joined) m)), λ m. subst (λ ns. Means base ns i d e) joined (k.1 (o.1 m)))
 
-  -- past the nodes nothing is meant
-  pub Means-past : (nodes : List PlainNode) (i d e : ℕ) → length nodes ≤ i → Means base nodes i d e → ⊥
-  Means-past nodes i d e h m = among (reverse nodes) (let l = length-reverse nodes in omega (arith, h, l)) m
-    where
-      among : (ns : List PlainNode) → length ns ≤ i → MeansAmong base ns i d e → ⊥
-      among [] k q = q
-      among (n ∷ ns) k q =
-          among ns (omega (arith, k)) (MatchBool-at_false (NodeMeans base (MeansAmong base ns) n d e) (MeansAmong base ns i d e) (ne_eqb i (length ns) (λ e'. let no_more : ⊥ = omega (arith, k, e') in no_more)) q)
-
 -- a list up to a place, the item there, and what follows
 pub split_at : {A : Type 0} (xs : List A) (i : ℕ) (x : A) → slice_get xs i ≡ Some x → (front : List A) × (rest : List A) × (xs ≡ front ++ x ∷ rest) × (length front ≡ i)
 split_at [] i x h = absurd (none-some x h)

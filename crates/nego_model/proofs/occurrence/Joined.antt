@@ -3,11 +3,6 @@ use Rattle.std.proofs.Common.{◌≡◌, ℕ, List, [], ◌∷◌, ◌++◌, len
 use Rattle.nego_model.specs.Occurring.{Occurrence}
 use Rattle.nego_model.specs.Joining.{Relation, Entry, steps_of, AreRelated, joint_after, Joins}
 
--- the data after two lists of entries, one after the other, are those after the second behind the first
-pub joint_after-append : (d : ℕ) (front rest : List Entry) → joint_after d (front ++ rest) ≡ joint_after (joint_after d front) rest
-joint_after-append d [] rest = refl
-joint_after-append d (entry ∷ front) rest = joint_after-append entry.joint front rest
-
 -- related entries, and related ones behind them
 pub AreRelated-append : (relation : Relation) (d : ℕ) (front rest : List Entry) → AreRelated relation d front → AreRelated relation (joint_after d front) rest → AreRelated relation d (front ++ rest)
 AreRelated-append relation d [] rest h k = k

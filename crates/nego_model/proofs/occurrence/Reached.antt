@@ -69,19 +69,6 @@ module _ (nego : Negotiation) (relation : Relation) where
           let k = joins_from_first relation step steps c e j in
           go steps m.0 k.0 (Reaches_then from d between c m.0 k.0 step more m.1 k.1) (step_holds between c m.0 k.0 step more p m.1 k.1) m.2 k.2
 
-  -- what holds of the end, and holds before an occurrence where it holds behind it, holds of all that reach the end
-  pub reached_by_first {ℓ} : (to : PlainMarking) (e : ℕ) (P : PlainMarking → ℕ → Type ℓ) → P to e →
-      ((from : PlainMarking) (d : ℕ) (between : PlainMarking) (c : ℕ) (step : Occurrence) → after nego from step ≡ Some between → relation step.1 d c → Reaches nego relation between c to e → P between c → P from d) →
-      (from : PlainMarking) (d : ℕ) → Reaches nego relation from d to e → P from d
-  reached_by_first to e P end step_holds from d h = go h.steps from d h.leads h.joins
-    where
-      go : (steps : List Occurrence) (from' : PlainMarking) (c : ℕ) → leaves nego from' steps ≡ Some to → Joins relation steps c e → P from' c
-      go [] from' c l j = subst (λ m. P m c) (sym (same_Some from' to l)) (subst (P to) (sym (same_from_empty relation c e j)) end)
-      go (step ∷ steps) from' c l j =
-          let m = leaves-first nego from' step steps to l in
-          let k = joins_from_first relation step steps c e j in
-          step_holds from' c m.0 k.0 step m.1 k.1 (record { steps = steps; leads = m.2; joins = k.2 }) (go steps m.0 k.0 m.2 k.2)
-
   -- a marking leads to what is reached from it
   pub Leads-from_reaches : (from : PlainMarking) (d : ℕ) (to : PlainMarking) (e : ℕ) → Reaches nego relation from d to e → Leads nego from to
   Leads-from_reaches from d to e h = record { steps = h.steps; leads = h.leads }
@@ -93,7 +80,3 @@ module _ (nego : Negotiation) (relation : Relation) where
       joins : (steps : List Occurrence) → Joins relation steps d d
       joins [] = Joins-empty relation d
       joins (step ∷ steps) = Joins_first relation step steps d d d (same step.1) (joins steps)
-
-  -- what is reached by a relation is reached by a wider one
-  pub Reaches-wider : (wider : Relation) → ((o d e : ℕ) → relation o d e → wider o d e) → (from : PlainMarking) (d : ℕ) (to : PlainMarking) (e : ℕ) → Reaches nego relation from d to e → Reaches nego wider from d to e
-  Reaches-wider wider h from d to e r = record { steps = r.steps; leads = r.leads; joins = Joins-wider relation wider h r.steps d e r.joins }

@@ -30,10 +30,6 @@ module _ (nego : Negotiation) where
   pub reached-after : (marking left : PlainMarking) (step : Occurrence) → IsReached nego marking → after nego marking step ≡ Some left → IsReached nego left
   reached-after marking left step h e = Leads_through nego (opening_marking nego) marking left h (Leads_one nego marking left step e)
 
-  -- what a reached marking leads to is reached
-  pub reached-led : (from to : PlainMarking) → IsReached nego from → Leads nego from to → IsReached nego to
-  reached-led from to h way = Leads_through nego (opening_marking nego) from to h way
-
   -- a reached marking has a list for each agent
   pub reached-below : (marking : PlainMarking) (a : ℕ) → IsReached nego marking → a < nego.agents → a < length marking
   reached-below marking a h below = subst (λ count. a < count) (sym (length-run nego h.steps marking h.leads)) below

@@ -92,10 +92,6 @@ pub leaves_then : (nego : Negotiation) (marking : PlainMarking) (front : List Oc
     leaves nego marking (front ++ step ∷ []) ≡ Some left
 leaves_then nego marking front step middle left e k = leaves_through nego marking front (step ∷ []) middle e ∙ (leaves_one nego middle step ∙ k)
 
--- steps leave one marking
-pub leaves_same : (nego : Negotiation) (marking : PlainMarking) (steps : List Occurrence) (one two : PlainMarking) → leaves nego marking steps ≡ Some one → leaves nego marking steps ≡ Some two → one ≡ two
-leaves_same nego marking steps one two h k = same_Some one two (sym h ∙ k)
-
 -- steps leave as many agents as there were
 pub length-leaves : (nego : Negotiation) (marking : PlainMarking) (steps : List Occurrence) (left : PlainMarking) → leaves nego marking steps ≡ Some left → length left ≡ length marking
 length-leaves nego marking [] left e = ap length (sym (same_Some marking left e))

@@ -108,14 +108,3 @@ Sound_from_leads nego alive completes = record {
       let k = completes m.0 (record { steps = run; leads = m.1 }) in
       (k.steps, leaves_through nego (opening_marking nego) run k.steps m.0 m.1 ∙ k.leads);
 }
-
--- A negotiation is sound exactly where each atom is enabled in a marking that the opening one leads to, and each such
--- marking leads to the final one.
-pub sound_iff_leads : (nego : Negotiation) →
-    IsSound nego
-    ↔ (((n : ℕ) → IsTrue (is_in n nego.atoms) → (marking : PlainMarking) × Leads nego (opening_marking nego) marking × IsTrue (enables nego marking n))
-    × ((marking : PlainMarking) → Leads nego (opening_marking nego) marking → Leads nego marking (final_marking nego)))
-sound_iff_leads nego = (
-  λ sound. (λ n h. let k = sound.alive n h in (k.marking, record { steps = k.run; leads = k.leads }, k.enabled), sound_leads nego sound),
-  λ h. Sound_from_leads nego h.0 h.1,
-)
