@@ -1,5 +1,5 @@
 -- Laws of what expressions mean.
-use Rattle.std.proofs.Common.{◌≡◌, ◌↔◌, ⊎_elim, inl, inr, ℕ, zero, suc, ◌<◌, ◌≤◌, Bool, true, false, ◌==◌, List, [], ◌∷◌, ◌++◌, reverse, length, slice_get, slice_index_or, Some, MatchBool, All, refl, sym, subst, ap, ◌∙◌, arith, eq-eqb, ne_eqb, append_assoc, append-nil}
+use Rattle.std.proofs.Common.{◌≡◌, ◌↔◌, ⊎_elim, inl, inr, ℕ, zero, suc, ◌<◌, Bool, true, false, ◌==◌, List, [], ◌∷◌, ◌++◌, reverse, length, slice_get, slice_index_or, Some, MatchBool, All, refl, sym, subst, ap, ◌∙◌, arith, eq-eqb, ne_eqb, append_assoc, append-nil}
 use Rattle.std.proofs.lemmas.Bool.{MatchBool-at_true, MatchBool-at_false}
 use Rattle.std.proofs.lemmas.Option.{none-some, same_Some}
 use Rattle.std.proofs.lemmas.List.{reverse-append, length-reverse, length-append}

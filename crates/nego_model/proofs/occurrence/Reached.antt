@@ -1,12 +1,12 @@
 -- Laws of where occurrences lead.
-use Rattle.std.proofs.Common.{◌≡◌, ℕ, List, [], ◌∷◌, ◌++◌, Some, refl, sym, subst, ◌∙◌}
+use Rattle.std.proofs.Common.{◌≡◌, ℕ, List, [], ◌∷◌, ◌++◌, Some, refl, subst, ◌∙◌}
 use Rattle.std.proofs.lemmas.Option.{same_Some}
 use Rattle.nego_model.specs.Negotiation.{Negotiation}
 use Rattle.nego_model.specs.Occurring.{PlainMarking, Occurrence, after, leaves}
 use Rattle.nego_model.specs.Joining.{Relation, Joins}
 use Rattle.nego_model.specs.Reaching.{Reaches}
 use Rattle.nego_model.proofs.occurrence.Steps.{leaves-first, leaves_through, leaves_one}
-use Rattle.nego_model.proofs.occurrence.Joined.{Joins-empty, same_from_empty, Joins_first, joins_from_first, Joins_through, Joins_one, Joins-wider}
+use Rattle.nego_model.proofs.occurrence.Joined.{Joins-empty, same_from_empty, Joins_first, joins_from_first, Joins_through, Joins_one}
 
 -- Some occurrences lead from a marking to another.
 pub record Leads (nego : Negotiation) (from to : PlainMarking) : Type 0 where

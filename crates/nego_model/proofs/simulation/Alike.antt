@@ -1,13 +1,10 @@
 -- Negotiations that differ in nothing that occurrences look at have the same runs.
-use Rattle.std.proofs.Common.{◌≡◌, ⊎_elim, ℕ, ◌<◌, List, [], ◌∷◌, ◌++◌, length, replicate, Some, IsSome, IsTrue, refl, sym, subst, ap, ap₂, ◌∙◌}
+use Rattle.std.proofs.Common.{◌≡◌, ⊎_elim, ℕ, ◌<◌, List, length, Some, IsTrue, sym, subst, ap, ◌∙◌}
 use Rattle.nego_base.specs.Members.{is_in}
 use Rattle.nego_model.specs.Negotiation.{Negotiation, IsOutcome}
-use Rattle.nego_model.specs.Occurring.{PlainMarking, Occurrence, ready, moved, enables, after, leaves, opening_marking, final_marking, IsComplete, IsSound}
-use Rattle.nego_model.specs.Joining.{Relation, Runs}
-use Rattle.nego_model.specs.Reaching.{Reaches}
+use Rattle.nego_model.specs.Occurring.{PlainMarking, Occurrence, ready, moved, enables, after}
 use Rattle.nego_model.proofs.occurrence.Markings.{length-moved, ready-moved_party, ready-moved_other, same_markings, enables-atom, enables-party, enables_from}
-use Rattle.nego_model.proofs.occurrence.Steps.{after-some, after-outcome, after_from, leaves-first, leaves_from_first, run_leaves}
-use Rattle.nego_model.proofs.occurrence.Joined.{Joins-wider}
+use Rattle.nego_model.proofs.occurrence.Steps.{after-some, after-outcome, after_from}
 use Rattle.nego_base.proofs.Members.{in_or_not}
 
 -- The two have the same agents, atoms, parties, outcomes, first and last atom, and the same next atoms of parties.
