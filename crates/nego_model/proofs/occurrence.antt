@@ -11,5 +11,6 @@ pub mod Gathered
 pub mod Commuting
 pub mod Neighbours
 pub mod Projections
+pub mod Histories
 pub mod Followed
 pub mod MarkingArrays

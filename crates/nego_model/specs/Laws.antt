@@ -1,12 +1,12 @@
 -- Laws over the definitions, each proved as the clause of a public function.
-use Rattle.std.specs.Prelude.{◌≡◌, ◌≢◌, ◌↔◌, ℕ, ◌<◌, List, [], ◌∷◌, ◌++◌, length, Some, IsTrue}
+use Rattle.std.specs.Prelude.{◌≡◌, ◌≢◌, ◌↔◌, ℕ, ◌<◌, List, [], ◌∷◌, ◌++◌, length, slice_index, Some, IsTrue}
 use Rattle.std.specs.List.{AllPairs}
 use Rattle.nego_base.specs.Members.{is_in}
-use Rattle.nego_data.specs.Data.{data_count}
+use Rattle.nego_data.specs.Data.{data_count, split}
 use Rattle.nego_data.specs.Locality.{AgreeOn}
 use Rattle.nego_model.specs.Negotiation.{Negotiation, IsNegotiation, IsDeterministic, IsOutcome}
 use Rattle.nego_model.specs.Occurring.{PlainMarking, Occurrence, ready, after, leaves, opening_marking, IsComplete, IsSound}
-use Rattle.nego_model.specs.Joining.{Relation, RelationTest, By, Entry, steps_of, AreRelated, Joins, EndsWith, Runs}
+use Rattle.nego_model.specs.Joining.{Relation, RelationTest, By, Entry, steps_of, AreRelated, joint_after, IsHistory, Joins, EndsWith, Runs}
 use Rattle.nego_model.specs.Projection.{AreApart, projection, own_entries, ready_behind}
 use Rattle.nego_model.specs.Reaching.{EndsAtLast}
 use Rattle.nego_model.specs.Acyclic.{IsForwardOrder, IsRankedBy}
@@ -89,6 +89,11 @@ SameProjectionsLeaveTheSame = (nego : Negotiation) (one two : List Occurrence) (
 -- The occurrences of an agent's own entries of a history are the projection of the history's run.
 abbrev pub OwnEntriesProject : Type 0
 OwnEntriesProject = (nego : Negotiation) (a : ℕ) (history : List Entry) → steps_of (own_entries nego a history) ≡ projection nego a (steps_of history)
+
+-- An agent's value after a history is its value after its own entries alone.
+abbrev pub ValuesFollowFromOwnEntries : Type 0
+ValuesFollowFromOwnEntries = (nego : Negotiation) (sizes : List ℕ) (meaning : Meaning) (start : ℕ) (history : List Entry) (a : ℕ) → IsLocal nego sizes (Relates meaning) → a < length sizes → start < data_count sizes →
+    IsHistory nego (Relates meaning) start history → slice_index (split sizes (joint_after start history)) a ≡ slice_index (split sizes (joint_after start (own_entries nego a history))) a
 
 -- A forward order ranks its negotiation.
 abbrev pub ForwardOrdersRank : Type 0

@@ -1,6 +1,6 @@
 //! Laws over the definitions. Each function does nothing; its clause is the law.
 
-ghost use Rattle.nego_model.specs.Laws.{CompleteRunsEndWithTheLastAtom, JoinsThroughBetween, OlderNodesKeepTheirMeaning, CompleteRunsPassEveryoneAtTheLastAtom, StepsApartCommute, StepsApartJoinTheSame, NeighboursChangePlaces, NeighboursKeepJoinedData, NeighboursKeepEntries, NeighboursKeepProjections, ReadinessFollowsFromTheProjection, SameProjectionsLeaveTheSame, OwnEntriesProject, ForwardOrdersRank, FirstAndLastIsAlone, ReducedIsClosable, PoliciesComplete, ChosenAtomsOccurOnce, ChosenPathsDependOnThePlace, OneWayOut};
+ghost use Rattle.nego_model.specs.Laws.{CompleteRunsEndWithTheLastAtom, JoinsThroughBetween, OlderNodesKeepTheirMeaning, CompleteRunsPassEveryoneAtTheLastAtom, StepsApartCommute, StepsApartJoinTheSame, NeighboursChangePlaces, NeighboursKeepJoinedData, NeighboursKeepEntries, NeighboursKeepProjections, ReadinessFollowsFromTheProjection, SameProjectionsLeaveTheSame, OwnEntriesProject, ValuesFollowFromOwnEntries, ForwardOrdersRank, FirstAndLastIsAlone, ReducedIsClosable, PoliciesComplete, ChosenAtomsOccurOnce, ChosenPathsDependOnThePlace, OneWayOut};
 
 /// A complete run isn't empty, and its last entry is of the last atom.
 pub fn complete_runs_end_with_the_last_atom()
@@ -45,6 +45,11 @@ pub fn readiness_follows_from_the_projection()
     ensures ready { ReadinessFollowsFromTheProjection }
     ensures marking { SameProjectionsLeaveTheSame }
     ensures entries { OwnEntriesProject }
+{}
+
+/// An agent's value after a history follows from its own entries, where each outcome acts on its parties' data alone.
+pub fn values_follow_from_own_entries()
+    ensures { ValuesFollowFromOwnEntries }
 {}
 
 /// A forward order gives ranks: each edge leads to an atom of a greater rank.
