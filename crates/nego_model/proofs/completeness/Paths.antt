@@ -1,6 +1,6 @@
 -- What one agent sees of occurrences that are chosen and lead to the final marking: it follows from the atom at which
 -- the agent is. So no atom occurs twice in them.
-use Rattle.std.proofs.Common.{◌≡◌, ◌≢◌, ⊎_elim, ℕ, ◌<◌, List, [], ◌∷◌, ◌++◌, length, map, slice_index_or, All, IsTrue, refl, sym, subst, ap, ap₂, ◌∙◌, arith, length-append}
+use Rattle.std.proofs.Common.{◌≡◌, ◌≢◌, ⊎_elim, ℕ, ◌<◌, List, [], ◌∷◌, ◌++◌, length, map, slice_index_or, Some, All, IsTrue, refl, sym, subst, ap, ap₂, ◌∙◌, arith, length-append}
 use Rattle.std.proofs.lemmas.Bool.{cond-true, cond-false, false_from_ne_true}
 use Rattle.std.proofs.lemmas.Option.{same_Some}
 use Rattle.std.proofs.lemmas.List.Elements.{All-nil, All-cons, All-head, All-tail}
@@ -8,9 +8,9 @@ use Rattle.std.specs.List.{AllPairs}
 use Rattle.nego_base.specs.Members.{is_in}
 use Rattle.nego_base.proofs.Members.{in_or_not, is_in-cases, is_in_none, is_in-head, is_in-tail, some_member}
 use Rattle.nego_model.specs.Negotiation.{Negotiation, IsNegotiation, IsDeterministic}
-use Rattle.nego_model.specs.Occurring.{PlainMarking, Occurrence, ready, final_marking}
+use Rattle.nego_model.specs.Occurring.{PlainMarking, Occurrence, ready, leaves, final_marking}
 use Rattle.nego_model.specs.Projection.{projection}
-use Rattle.nego_model.specs.Policy.{IsCompletedBy}
+use Rattle.nego_model.specs.Policy.{AreChosen, IsCompletedBy}
 use Rattle.nego_model.proofs.PairLaws.{AllPairs-cons}
 use Rattle.nego_model.proofs.occurrence.Markings.{ready-replicate, enables-atom, enables-party}
 use Rattle.nego_model.proofs.occurrence.Steps.{after-some, leaves-first}
@@ -35,6 +35,11 @@ occurrence_of n (step ∷ steps) h =
 pub among_atoms : (front : List Occurrence) (step : Occurrence) (rest : List Occurrence) → IsTrue (is_in step.0 (atoms_of (front ++ step ∷ rest)))
 among_atoms [] step rest = is_in-head step.0 (atoms_of rest)
 among_atoms (first ∷ front) step rest = is_in-tail step.0 first.0 (atoms_of (front ++ step ∷ rest)) (among_atoms front step rest)
+
+-- what occurs behind occurs
+pub atoms-behind : (front : List Occurrence) (step : Occurrence) (rest : List Occurrence) (n : ℕ) → IsTrue (is_in n (atoms_of rest)) → IsTrue (is_in n (atoms_of (front ++ step ∷ rest)))
+atoms-behind [] step rest n h = is_in-tail n step.0 (atoms_of rest) h
+atoms-behind (first ∷ front) step rest n h = is_in-tail n first.0 (atoms_of (front ++ step ∷ rest)) (atoms-behind front step rest n h)
 
 -- an atom that isn't among those of occurrences is another than each of theirs
 pub others_from_absent : (n : ℕ) (steps : List Occurrence) → ¬ IsTrue (is_in n (atoms_of steps)) → All (λ step. n ≢ step.0) steps
@@ -83,10 +88,20 @@ module _ (nego : Negotiation) (a : ℕ) where
 
 module _ (nego : Negotiation) (choice : ℕ → ℕ) (a : ℕ) where
   -- The occurrences are what an agent sees who is at one atom, takes part in it with the chosen outcome, goes on to the
-  -- next, and ends ready for nothing.
+  -- next, and comes to what is given last.
+  abbrev pub IsStretch : List ℕ → List Occurrence → List ℕ → Type 0
+  IsStretch here [] there = here ≡ there
+  IsStretch here (step ∷ steps) there = (here ≡ step.0 ∷ []) × (step.1 ≡ choice step.0) × IsStretch (nego.next step.1 a) steps there
+
+  -- It ends ready for nothing.
   abbrev pub IsPath : List ℕ → List Occurrence → Type 0
-  IsPath here [] = here ≡ []
-  IsPath here (step ∷ steps) = (here ≡ step.0 ∷ []) × (step.1 ≡ choice step.0) × IsPath (nego.next step.1 a) steps
+  IsPath here steps = IsStretch here steps []
+
+  -- what is chosen at one atom is one occurrence
+  same_first : (here : List ℕ) (step step' : Occurrence) → here ≡ step.0 ∷ [] → here ≡ step'.0 ∷ [] → step.1 ≡ choice step.0 → step'.1 ≡ choice step'.0 → step ≡ step'
+  same_first here step step' at at' chosen chosen' =
+      let atom : step.0 ≡ step'.0 = ap (λ atoms. slice_index_or atoms 0 0) (sym at ∙ at') in
+      ap₂ (λ n o. (n, o)) atom (chosen ∙ (ap choice atom ∙ sym chosen'))
 
   -- there is one path from an atom
   pub path-unique : (here : List ℕ) (one two : List Occurrence) → IsPath here one → IsPath here two → one ≡ two
@@ -94,11 +109,18 @@ module _ (nego : Negotiation) (choice : ℕ → ℕ) (a : ℕ) where
   path-unique here [] (step ∷ two) h k = let none : [] ≡ step.0 ∷ [] = sym h ∙ k.0 in absurd (let lengths = ap length none in omega (arith, lengths))
   path-unique here (step ∷ one) [] h k = let none : [] ≡ step.0 ∷ [] = sym k ∙ h.0 in absurd (let lengths = ap length none in omega (arith, lengths))
   path-unique here (step ∷ one) (step' ∷ two) h k =
-      let atom : step.0 ≡ step'.0 = ap (λ atoms. slice_index_or atoms 0 0) (sym h.0 ∙ k.0) in
-      let outcome : step.1 ≡ step'.1 = h.1 ∙ (ap choice atom ∙ sym k.1) in
-      let same : ◌≡◌ {A = Occurrence} step step' = ap₂ (λ n o. (n, o)) atom outcome in
-      ap₂ (λ first rest. first ∷ rest) same
-      (path-unique (nego.next step'.1 a) one two (subst (λ o. IsPath (nego.next o a) one) outcome h.2) k.2)
+      let same = same_first here step step' h.0 k.0 h.1 k.1 in
+      ap₂ (λ (first : Occurrence) rest. first ∷ rest) same
+      (path-unique (nego.next step'.1 a) one two (subst (λ (first : Occurrence). IsPath (nego.next first.1 a) one) same h.2) k.2)
+
+  -- a stretch is the beginning of each path from the same atom
+  pub stretch-begins : (here there : List ℕ) (steps all : List Occurrence) → IsStretch here steps there → IsPath here all → (rest : List Occurrence) × (all ≡ steps ++ rest)
+  stretch-begins here there [] all h k = (all, refl)
+  stretch-begins here there (step ∷ steps) [] h k = let none : [] ≡ step.0 ∷ [] = sym k ∙ h.0 in absurd (let lengths = ap length none in omega (arith, lengths))
+  stretch-begins here there (step ∷ steps) (step' ∷ all) h k =
+      let same = same_first here step step' h.0 k.0 h.1 k.1 in
+      let rest = stretch-begins (nego.next step'.1 a) there steps all (subst (λ (first : Occurrence). IsStretch (nego.next first.1 a) steps there) same h.2) k.2 in
+      (rest.0, ap₂ (λ (first : Occurrence) later. first ∷ later) (sym same) rest.1)
 
   -- the path from an atom on it
   pub path_from : (here : List ℕ) (front : List Occurrence) (step : Occurrence) (rest : List Occurrence) → IsPath here (front ++ step ∷ rest) → IsPath (step.0 ∷ []) (step ∷ rest)
@@ -114,26 +136,32 @@ module _ (nego : Negotiation) (choice : ℕ → ℕ) (a : ℕ) where
       (m.0, m.3 ∙ ap (λ later. m.0 ++ later) (sym same))
 
 module _ (nego : Negotiation) (ok : IsNegotiation nego) (single : IsDeterministic nego) (choice : ℕ → ℕ) where
-  -- an agent sees a path, from what it is ready for
-  pub path-seen : (a : ℕ) → a < nego.agents → (steps : List Occurrence) (marking : PlainMarking) → IsReached nego marking → IsCompletedBy nego choice marking steps → IsPath nego choice a (ready marking a) (projection nego a steps)
-  path-seen a below [] marking reached h = ap (λ m. ready m a) (same_Some marking (final_marking nego) h.ends) ∙ ready-replicate nego.agents a [] below
-  path-seen a below (step ∷ steps) marking reached h =
-      let k = leaves-first nego marking step steps (final_marking nego) h.ends in
-      let there = reached-below nego marking a reached below in
-      let rest : IsPath nego choice a (ready k.0 a) (projection nego a steps) =
-      path-seen a below steps k.0 (reached-after nego marking k.0 step reached k.1) (record { chosen = All-tail (λ s. s.1 ≡ choice s.0) step steps h.chosen; ends = k.2 }) in
+  -- an agent sees a stretch, from what it is ready for to what it is ready for behind it
+  pub stretch-seen : (a : ℕ) → a < nego.agents → (steps : List Occurrence) (from to : PlainMarking) → IsReached nego from → AreChosen choice steps → leaves nego from steps ≡ Some to →
+      IsStretch nego choice a (ready from a) (projection nego a steps) (ready to a)
+  stretch-seen a below [] from to reached chosen e = ap (λ m. ready m a) (same_Some from to e)
+  stretch-seen a below (step ∷ steps) from to reached chosen e =
+      let k = leaves-first nego from step steps to e in
+      let there = reached-below nego from a reached below in
+      let rest : IsStretch nego choice a (ready k.0 a) (projection nego a steps) (ready to a) =
+      stretch-seen a below steps k.0 to (reached-after nego from k.0 step reached k.1) (All-tail (λ s. s.1 ≡ choice s.0) step steps chosen) k.2 in
       ⊎_elim
       (λ party.
-      let at : IsTrue (is_in step.0 (ready marking a)) = enables-party nego marking step.0 a (after-some nego marking step k.0 k.1).0 party in
-      subst (IsPath nego choice a (ready marking a)) (sym (projection-party nego a step steps party)) (
-        ready_alone nego marking a step.0 (reached-proper nego ok marking reached) (reached-single nego single marking reached) below at,
-        All-head (λ s. s.1 ≡ choice s.0) step steps h.chosen,
-        subst (λ here. IsPath nego choice a here (projection nego a steps)) (ready-after_party nego marking k.0 step a there k.1 party) rest,
+      let at : IsTrue (is_in step.0 (ready from a)) = enables-party nego from step.0 a (after-some nego from step k.0 k.1).0 party in
+      subst (λ seen. IsStretch nego choice a (ready from a) seen (ready to a)) (sym (projection-party nego a step steps party)) (
+        ready_alone nego from a step.0 (reached-proper nego ok from reached) (reached-single nego single from reached) below at,
+        All-head (λ s. s.1 ≡ choice s.0) step steps chosen,
+        subst (λ here. IsStretch nego choice a here (projection nego a steps) (ready to a)) (ready-after_party nego from k.0 step a there k.1 party) rest,
       ))
       (λ other.
-      subst (IsPath nego choice a (ready marking a)) (sym (projection-other nego a step steps other))
-      (subst (λ here. IsPath nego choice a here (projection nego a steps)) (ready-after_other nego marking k.0 step a there k.1 other) rest))
+      subst (λ seen. IsStretch nego choice a (ready from a) seen (ready to a)) (sym (projection-other nego a step steps other))
+      (subst (λ here. IsStretch nego choice a here (projection nego a steps) (ready to a)) (ready-after_other nego from k.0 step a there k.1 other) rest))
       (in_or_not a (nego.parties step.0))
+
+  -- and a path where the occurrences lead to the final marking
+  pub path-seen : (a : ℕ) → a < nego.agents → (steps : List Occurrence) (marking : PlainMarking) → IsReached nego marking → IsCompletedBy nego choice marking steps → IsPath nego choice a (ready marking a) (projection nego a steps)
+  path-seen a below steps marking reached h =
+      subst (IsStretch nego choice a (ready marking a) (projection nego a steps)) (ready-replicate nego.agents a [] below) (stretch-seen a below steps marking (final_marking nego) reached h.chosen h.ends)
 
   -- what an agent sees follows from what it is ready for
   pub same_paths : (a : ℕ) → a < nego.agents → (one two : PlainMarking) (steps steps' : List Occurrence) → IsReached nego one → IsReached nego two → IsCompletedBy nego choice one steps → IsCompletedBy nego choice two steps' →
