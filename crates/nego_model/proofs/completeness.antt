@@ -8,5 +8,7 @@ pub mod OneWayOut
 pub mod EdgeWays
 pub mod Rounds
 pub mod Domination
+pub mod Waiting
+pub mod Sweeping
 pub mod Branching
 pub mod Closable

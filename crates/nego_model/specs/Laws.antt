@@ -10,7 +10,7 @@ use Rattle.nego_model.specs.Joining.{Relation, RelationTest, By, Entry, steps_of
 use Rattle.nego_model.specs.Projection.{AreApart, projection, own_entries, ready_behind}
 use Rattle.nego_model.specs.Reaching.{EndsAtLast}
 use Rattle.nego_model.specs.Acyclic.{IsForwardOrder, IsRankedBy}
-use Rattle.nego_model.specs.Reduced.{SendAlike, EntersNone, IsReduced, IsClosable}
+use Rattle.nego_model.specs.Reduced.{SendAlike, EntersNone, IsReduced, IsClosable, IteratesNone, IsSweepable}
 use Rattle.nego_model.specs.Policy.{Policy, IsCompletedBy}
 use Rattle.nego_model.specs.Locality.{IsLocal}
 use Rattle.nego_model.specs.Expression.{PlainNode, Means, Meaning, Relates}
@@ -129,3 +129,8 @@ ChosenPathsDependOnThePlace = (nego : Negotiation) (choice : ℕ → ℕ) (run r
 -- In a sound deterministic negotiation, cyclic ones too, outcomes of an atom that enter no atom send alike.
 abbrev pub OneWayOut : Type 0
 OneWayOut = (nego : Negotiation) (n x y : ℕ) → IsNegotiation nego → IsDeterministic nego → IsSound nego → IsOutcome nego n x → IsOutcome nego n y → EntersNone nego n x → EntersNone nego n y → SendAlike nego n x y
+
+-- In a sound deterministic negotiation, cyclic ones too, of which nothing iterates, some atom may be swept, where there is one
+-- beside the first and the last.
+abbrev pub SomeAtomMayBeSwept : Type 0
+SomeAtomMayBeSwept = (nego : Negotiation) (n : ℕ) → IsNegotiation nego → IsDeterministic nego → IsSound nego → IteratesNone nego → IsTrue (is_in n nego.atoms) → n ≢ nego.first → n ≢ nego.last → (p : ℕ) × IsSweepable nego p

@@ -1,7 +1,8 @@
--- Negotiations of which nothing merges, and what is left of them where they are sound and acyclic.
+-- Negotiations of which nothing merges, enters or iterates, and what is left of them where they are sound.
 use Rattle.std.specs.Prelude.{◌≡◌, ◌≢◌, ◌⊎◌, ℕ, ◌<◌, [], ◌∷◌, IsTrue}
 use Rattle.nego_base.specs.Members.{is_in}
 use Rattle.nego_model.specs.Negotiation.{Negotiation, IsOutcome}
+use Rattle.nego_model.specs.Acyclic.{IsEdge}
 
 -- Each two outcomes of the atom are one.
 abbrev pub HasOne : Negotiation → ℕ → Type 0
@@ -32,3 +33,17 @@ pub record IsClosable (nego : Negotiation) : Type 0 where
   pub one : HasOne nego nego.first
   pub sends : (a : ℕ) → a < nego.agents → nego.next outcome a ≡ nego.last ∷ []
   pub atoms : (n : ℕ) → IsTrue (is_in n nego.atoms) → (n ≡ nego.first) ⊎ (n ≡ nego.last)
+
+-- No outcome of an atom that isn't the last and has another outcome sends all of the atom's parties back.
+abbrev pub IteratesNone : Negotiation → Type 0
+IteratesNone nego = (n x y : ℕ) → n ≢ nego.last → IsOutcome nego n x → IsOutcome nego n y → x ≢ y → ¬ Enters nego n x n
+
+-- An atom may be swept: it is neither the first nor the last; none of its outcomes sends anyone back to it; an edge leads to
+-- it from another atom; and each outcome of another atom that leads to it enters it.
+pub record IsSweepable (nego : Negotiation) (n : ℕ) : Type 0 where
+  pub atom : IsTrue (is_in n nego.atoms)
+  pub not_first : n ≢ nego.first
+  pub not_last : n ≢ nego.last
+  pub none_back : ¬ IsEdge nego n n
+  pub from_another : (m : ℕ) × (m ≢ n) × IsEdge nego m n
+  pub entered : (m o a : ℕ) → m ≢ n → IsOutcome nego m o → IsTrue (is_in n (nego.next o a)) → Enters nego m o n

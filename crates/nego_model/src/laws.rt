@@ -1,6 +1,6 @@
 //! Laws over the definitions. Each function does nothing; its clause is the law.
 
-ghost use Rattle.nego_model.specs.Laws.{CompleteRunsEndWithTheLastAtom, JoinsThroughBetween, OlderNodesKeepTheirMeaning, CompleteRunsPassEveryoneAtTheLastAtom, StepsApartCommute, StepsApartJoinTheSame, NeighboursChangePlaces, NeighboursKeepJoinedData, NeighboursKeepEntries, NeighboursKeepProjections, ReadinessFollowsFromTheProjection, SameProjectionsLeaveTheSame, OwnEntriesProject, ValuesFollowFromOwnEntries, ForwardOrdersRank, FirstAndLastIsAlone, ReducedIsClosable, PoliciesComplete, ChosenAtomsOccurOnce, ChosenPathsDependOnThePlace, OneWayOut};
+ghost use Rattle.nego_model.specs.Laws.{CompleteRunsEndWithTheLastAtom, JoinsThroughBetween, OlderNodesKeepTheirMeaning, CompleteRunsPassEveryoneAtTheLastAtom, StepsApartCommute, StepsApartJoinTheSame, NeighboursChangePlaces, NeighboursKeepJoinedData, NeighboursKeepEntries, NeighboursKeepProjections, ReadinessFollowsFromTheProjection, SameProjectionsLeaveTheSame, OwnEntriesProject, ValuesFollowFromOwnEntries, ForwardOrdersRank, FirstAndLastIsAlone, ReducedIsClosable, PoliciesComplete, ChosenAtomsOccurOnce, ChosenPathsDependOnThePlace, OneWayOut, SomeAtomMayBeSwept};
 
 /// A complete run isn't empty, and its last entry is of the last atom.
 pub fn complete_runs_end_with_the_last_atom()
@@ -77,4 +77,10 @@ pub fn outcomes_that_enter_none_send_alike()
 pub fn reduced_negotiations_close()
     ensures alone { FirstAndLastIsAlone }
     ensures closable { ReducedIsClosable }
+{}
+
+/// In a sound deterministic negotiation, cyclic ones too, of which nothing iterates, some atom may be swept, as long as
+/// there is one beside the first and the last.
+pub fn some_atom_may_be_swept()
+    ensures { SomeAtomMayBeSwept }
 {}

@@ -1,16 +1,15 @@
 -- How often chosen occurrences can be of an atom, each of whose occurrences sends a guide on.
 use Rattle.std.proofs.Common.{◌≡◌, ◌≢◌, ◌⊎◌, inl, inr, ⊎_elim, ℕ, zero, suc, ◌+◌, ◌<◌, ◌≤◌, if◌then◌else◌, List, [], ◌∷◌, length, Some, IsTrue, refl, sym, subst, ap, ◌∙◌, arith}
 use Rattle.std.proofs.lemmas.Bool.{cases_eq, cond-true, cond-false, false_from_ne_true}
-use Rattle.std.proofs.lemmas.List.Elements.{All-nil, All-cons, All-head, All-tail}
+use Rattle.std.proofs.lemmas.List.Elements.{All-head, All-tail}
 use Rattle.nego_base.specs.Members.{is_in}
 use Rattle.nego_base.proofs.Members.{in_or_not, is_in-cases, is_in_none, is_in-head, is_in-tail, is_in_single, rising-single}
 use Rattle.nego_model.specs.Negotiation.{Negotiation, IsNegotiation, IsDeterministic, IsOutcome}
-use Rattle.nego_model.specs.Occurring.{PlainMarking, Occurrence, ready, moved, after, leaves, final_marking, IsSound}
-use Rattle.nego_model.specs.Policy.{Policy, AreChosen, IsCompletedBy}
+use Rattle.nego_model.specs.Occurring.{PlainMarking, Occurrence, ready, after, leaves}
+use Rattle.nego_model.specs.Policy.{AreChosen}
 use Rattle.nego_model.proofs.occurrence.Markings.{enables-atom, enables-party}
-use Rattle.nego_model.proofs.occurrence.Steps.{after-some, after_from, leaves-first, leaves_from_first}
+use Rattle.nego_model.proofs.occurrence.Steps.{after-some, leaves-first}
 use Rattle.nego_model.proofs.occurrence.ReachedMarkings.{IsReached, ready-after_party, ready-after_other, reached-after, reached-below}
-use Rattle.nego_model.proofs.occurrence.Ways.{sound_leads}
 
 -- how often the atoms of a list occur
 abbrev pub times : List ℕ → List Occurrence → ℕ

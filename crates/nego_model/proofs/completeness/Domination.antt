@@ -1,21 +1,20 @@
 -- On a cycle of a sound deterministic negotiation the atom that is nearest to the last one has all parties of the atom behind
 -- it.
-use Rattle.std.proofs.Common.{◌≡◌, ◌≢◌, ◌⊎◌, inl, inr, ⊎_elim, ℕ, suc, ◌+◌, ◌*◌, ◌<◌, ◌≤◌, ◌==◌, if◌then◌else◌, List, [], ◌∷◌, ◌++◌, length, Some, IsTrue, refl, sym, subst, ap, ◌∙◌, arith, eq-eqb, ne_eqb, mul-le-mul_left, mul-suc}
+use Rattle.std.proofs.Common.{◌≡◌, ◌≢◌, ◌⊎◌, inl, ⊎_elim, ℕ, suc, ◌+◌, ◌*◌, ◌<◌, ◌≤◌, ◌==◌, if◌then◌else◌, List, [], ◌∷◌, ◌++◌, length, Some, IsTrue, refl, sym, subst, ap, ◌∙◌, arith, eq-eqb, ne_eqb, mul-le-mul_left, mul-suc}
 use Rattle.std.proofs.lemmas.Bool.{cases_eq, cases_lt, cond-true, cond-false, false_from_ne_true}
 use Rattle.nego_base.specs.Members.{is_in}
-use Rattle.nego_base.proofs.Members.{in_or_not, is_in_none, is_in-head, is_in_single}
-use Rattle.nego_model.specs.Negotiation.{Negotiation, IsNegotiation, IsDeterministic, IsOutcome}
-use Rattle.nego_model.specs.Occurring.{PlainMarking, Occurrence, ready, enables, leaves, IsSound, CanOccur}
+use Rattle.nego_base.proofs.Members.{in_or_not}
+use Rattle.nego_model.specs.Negotiation.{Negotiation, IsNegotiation, IsDeterministic}
+use Rattle.nego_model.specs.Occurring.{PlainMarking, Occurrence, ready, enables, leaves, IsSound}
 use Rattle.nego_model.specs.Acyclic.{IsEdge}
 use Rattle.nego_model.specs.Projection.{projection}
 use Rattle.nego_model.specs.Policy.{Policy, AreChosen, IsCompletedBy}
 use Rattle.nego_model.proofs.occurrence.Markings.{enables-party}
-use Rattle.nego_model.proofs.occurrence.Reached.{Leads}
 use Rattle.nego_model.proofs.occurrence.ReachedMarkings.{IsReached}
-use Rattle.nego_model.proofs.completeness.Paths.{atoms_of, IsStretch, IsPath, stretch-begins, path-seen, stretch-seen, seen_occurs}
+use Rattle.nego_model.proofs.completeness.Paths.{IsStretch, stretch-begins, path-seen, stretch-seen, seen_occurs}
 use Rattle.nego_model.proofs.completeness.Counting.{times, total, Guided, targets, at_most}
 use Rattle.nego_model.proofs.completeness.Policies.{goes_on, completed}
-use Rattle.nego_model.proofs.completeness.EdgeWays.{IsWay, IsSimple, left, Follows, along, left-most, left-off, left-on, end_off, Follows-same, along-follows, along-off, IsOwn, edge-own, along-own, edge_end, follows-leads}
+use Rattle.nego_model.proofs.completeness.EdgeWays.{IsWay, IsSimple, left, Follows, along, left-most, end_off, Follows-same, along-follows, along-off, IsOwn, edge-own, along-own, edge_end, follows-leads}
 use Rattle.nego_model.proofs.completeness.Rounds.{times_seen, times-front, stretch-same, times_once, never_ends}
 
 -- A cycle: a way from an atom to another, from which an edge leads back. The other is nearest to the last atom.

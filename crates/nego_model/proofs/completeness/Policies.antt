@@ -1,16 +1,15 @@
 -- Occurrences by a policy come to an end: in a sound deterministic negotiation they lead from each reached marking to the
 -- final one.
-use Rattle.std.proofs.Common.{◌≡◌, ◌≢◌, ◌⊎◌, inl, inr, ⊎_elim, ℕ, zero, suc, ◌+◌, ◌<◌, ◌≤◌, if◌then◌else◌, List, [], ◌∷◌, length, Some, IsTrue, refl, sym, subst, ap, ◌∙◌, arith}
-use Rattle.std.proofs.lemmas.Bool.{cases_eq, cond-true, cond-false, false_from_ne_true}
-use Rattle.std.proofs.lemmas.List.Elements.{All-nil, All-cons, All-head, All-tail}
+use Rattle.std.proofs.Common.{◌≡◌, ◌⊎◌, inl, inr, ⊎_elim, ℕ, zero, suc, ◌+◌, ◌≤◌, List, [], ◌∷◌, length, Some, IsTrue, refl, ap, ◌∙◌, arith}
+use Rattle.std.proofs.lemmas.List.Elements.{All-nil, All-cons}
 use Rattle.nego_base.specs.Members.{is_in}
-use Rattle.nego_base.proofs.Members.{in_or_not, is_in-cases, is_in_none, is_in-head, is_in-tail, is_in_single, rising-single}
-use Rattle.nego_model.specs.Negotiation.{Negotiation, IsNegotiation, IsDeterministic, IsOutcome}
-use Rattle.nego_model.specs.Occurring.{PlainMarking, Occurrence, ready, moved, after, leaves, final_marking, IsSound}
+use Rattle.nego_base.proofs.Members.{is_in_none}
+use Rattle.nego_model.specs.Negotiation.{Negotiation, IsNegotiation, IsDeterministic}
+use Rattle.nego_model.specs.Occurring.{PlainMarking, Occurrence, moved, after, leaves, final_marking, IsSound}
 use Rattle.nego_model.specs.Policy.{Policy, AreChosen, IsCompletedBy}
-use Rattle.nego_model.proofs.occurrence.Markings.{enables-atom, enables-party}
+use Rattle.nego_model.proofs.occurrence.Markings.{enables-atom}
 use Rattle.nego_model.proofs.occurrence.Steps.{after-some, after_from, leaves-first, leaves_from_first}
-use Rattle.nego_model.proofs.occurrence.ReachedMarkings.{IsReached, ready-after_party, ready-after_other, reached-after, reached-below}
+use Rattle.nego_model.proofs.occurrence.ReachedMarkings.{IsReached, reached-after}
 use Rattle.nego_model.proofs.occurrence.Ways.{sound_leads}
 use Rattle.nego_model.proofs.completeness.Counting.{times, times-none, total, Guided, targets, between, at_most}
 

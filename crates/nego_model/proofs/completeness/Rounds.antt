@@ -1,22 +1,18 @@
 -- Chosen occurrences to the final marking: how often an atom occurs in them, and that they don't go round a cycle.
-use Rattle.std.proofs.Common.{◌≡◌, ◌≢◌, ◌⊎◌, inl, inr, ⊎_elim, ℕ, suc, ◌+◌, ◌*◌, ◌<◌, ◌≤◌, ◌==◌, if◌then◌else◌, List, [], ◌∷◌, ◌++◌, length, Some, IsTrue, refl, sym, subst, ap, ◌∙◌, arith, eq-eqb, ne_eqb}
-use Rattle.std.proofs.lemmas.Bool.{cases_eq, cases_lt, cond-true, cond-false, false_from_ne_true}
-use Rattle.std.proofs.lemmas.List.Elements.{All-tail, All-append}
+use Rattle.std.proofs.Common.{◌≡◌, ⊎_elim, ℕ, suc, ◌<◌, ◌≤◌, List, [], ◌∷◌, ◌++◌, IsTrue, refl, sym, subst, ap, ◌∙◌, arith}
+use Rattle.std.proofs.lemmas.List.Elements.{All-tail}
 use Rattle.nego_base.specs.Members.{is_in}
 use Rattle.nego_base.proofs.Members.{in_or_not, is_in_none, is_in-head, is_in_single}
-use Rattle.nego_model.specs.Negotiation.{Negotiation, IsNegotiation, IsDeterministic, IsOutcome}
-use Rattle.nego_model.specs.Occurring.{PlainMarking, Occurrence, ready, enables, after, leaves, final_marking, IsSound, CanOccur}
+use Rattle.nego_model.specs.Negotiation.{Negotiation, IsNegotiation, IsDeterministic}
+use Rattle.nego_model.specs.Occurring.{PlainMarking, Occurrence, ready, final_marking}
 use Rattle.nego_model.specs.Acyclic.{IsEdge}
 use Rattle.nego_model.specs.Projection.{projection}
-use Rattle.nego_model.specs.Policy.{Policy, AreChosen, IsCompletedBy}
-use Rattle.nego_model.proofs.occurrence.Markings.{enables-party}
-use Rattle.nego_model.proofs.occurrence.Steps.{leaves-first, leaves_between}
-use Rattle.nego_model.proofs.occurrence.Reached.{Leads}
+use Rattle.nego_model.specs.Policy.{IsCompletedBy}
+use Rattle.nego_model.proofs.occurrence.Steps.{leaves-first}
 use Rattle.nego_model.proofs.occurrence.ReachedMarkings.{IsReached, reached-after}
-use Rattle.nego_model.proofs.completeness.Paths.{atoms_of, occurrence_of, among_atoms, atoms-behind, IsStretch, IsPath, stretch-begins, path_from, path-seen, stretch-seen, projection_at, projection-party, projection-other, seen_occurs, not_again}
-use Rattle.nego_model.proofs.completeness.Counting.{times, times-in, times-out, total, Guided, targets, at_most}
-use Rattle.nego_model.proofs.completeness.Policies.{goes_on, completed}
-use Rattle.nego_model.proofs.completeness.EdgeWays.{IsWay, IsSimple, left, Follows, along, left-most, left-off, left-on, end_off, Follows-same, along-follows, along-off, IsOwn, edge-own, along-own, edge_end, follows-leads}
+use Rattle.nego_model.proofs.completeness.Paths.{atoms_of, occurrence_of, atoms-behind, IsStretch, IsPath, path_from, path-seen, projection-party, projection-other, seen_occurs, not_again}
+use Rattle.nego_model.proofs.completeness.Counting.{times, times-in, times-out}
+use Rattle.nego_model.proofs.completeness.EdgeWays.{IsWay, Follows, edge-own}
 
 -- ---- how often an atom occurs
 

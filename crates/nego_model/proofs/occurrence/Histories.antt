@@ -1,5 +1,5 @@
 -- Laws of histories, which are runs with the joint data after each entry.
-use Rattle.std.proofs.Common.{◌≡◌, ⊎_elim, ℕ, ◌<◌, Bool, true, false, cond, List, [], ◌∷◌, ◌++◌, length, slice_index, Some, IsSome, IsTrue, refl, sym, subst, ap, ◌∙◌}
+use Rattle.std.proofs.Common.{◌≡◌, ⊎_elim, ℕ, ◌<◌, List, [], ◌∷◌, ◌++◌, length, slice_index, Some, IsSome, IsTrue, refl, sym, subst, ap, ◌∙◌}
 use Rattle.std.proofs.lemmas.Bool.{cond-true, cond-false, false_from_ne_true}
 use Rattle.std.proofs.lemmas.List.{map-append}
 use Rattle.std.proofs.lemmas.List.Elements.{filter-append}
@@ -7,7 +7,7 @@ use Rattle.nego_base.specs.Members.{is_in}
 use Rattle.nego_base.proofs.Members.{in_or_not}
 use Rattle.nego_data.specs.Data.{data_count, split}
 use Rattle.nego_model.specs.Negotiation.{Negotiation}
-use Rattle.nego_model.specs.Occurring.{PlainMarking, Occurrence, ready, after, leaves, opening_marking, final_marking}
+use Rattle.nego_model.specs.Occurring.{PlainMarking, ready, after, leaves, opening_marking, final_marking}
 use Rattle.nego_model.specs.Joining.{Relation, Entry, steps_of, AreRelated, joint_after, IsHistory, EndsWith, Runs}
 use Rattle.nego_model.specs.Locality.{IsLocal}
 use Rattle.nego_model.specs.Projection.{own_entries, ready_behind}
