@@ -65,13 +65,14 @@ pub record ChangePlaces (nego : Negotiation) (sizes : List ℕ) (relation : Rela
   pub keeps_first : AgreeOn sizes (nego.parties one.step.0) one.joint two.joint
   pub keeps_second : AgreeOn sizes (nego.parties two.step.0) two.joint between
 
--- So do neighbouring entries of a history, whose atoms have no common party.
+-- So do neighbours among entries that occur, whose atoms have no common party, where relations read and change their
+-- parties' values alone.
 abbrev pub NeighboursKeepEntries : Type 0
 NeighboursKeepEntries = (nego : Negotiation) (sizes : List ℕ) (meaning : Meaning) (marking left : PlainMarking) (d : ℕ) (front rest : List Entry) (one two : Entry) → IsLocal nego sizes (Relates meaning) →
     AreApart (nego.parties one.step.0) (nego.parties two.step.0) → d < data_count sizes → leaves nego marking (steps_of (front ++ one ∷ two ∷ rest)) ≡ Some left →
     AreRelated (Relates meaning) d (front ++ one ∷ two ∷ rest) → ChangePlaces nego sizes (Relates meaning) d front one two rest
 
--- Then each agent sees the same.
+-- Each agent sees the same of two neighbours that change places.
 abbrev pub NeighboursKeepProjections : Type 0
 NeighboursKeepProjections = (nego : Negotiation) (front rest : List Occurrence) (step step' : Occurrence) (a : ℕ) → AreApart (nego.parties step.0) (nego.parties step'.0) →
     projection nego a (front ++ step ∷ step' ∷ rest) ≡ projection nego a (front ++ step' ∷ step ∷ rest)
@@ -108,12 +109,14 @@ FirstAndLastIsAlone = (nego : Negotiation) → IsNegotiation nego → IsSound ne
 abbrev pub ReducedIsClosable : Type 0
 ReducedIsClosable = (nego : Negotiation) (order : List ℕ) → IsNegotiation nego → IsDeterministic nego → IsSound nego → IsRankedBy nego order → IsReduced nego → nego.first ≢ nego.last → IsClosable nego
 
--- A sound deterministic negotiation has a policy, and occurrences by any policy lead from each marking that a run leaves
--- to the final one.
+-- A sound deterministic negotiation has a policy.
+abbrev pub PoliciesExist : Type 0
+PoliciesExist = (nego : Negotiation) → IsNegotiation nego → IsDeterministic nego → IsSound nego → Policy nego
+
+-- Occurrences by a policy lead from each marking that a run leaves to the final one.
 abbrev pub PoliciesComplete : Type 0
-PoliciesComplete = (nego : Negotiation) → IsNegotiation nego → IsDeterministic nego → IsSound nego →
-    Policy nego
-    × ((policy : Policy nego) (run : List Occurrence) (marking : PlainMarking) → leaves nego (opening_marking nego) run ≡ Some marking → (steps : List Occurrence) × IsCompletedBy nego policy.choice marking steps)
+PoliciesComplete = (nego : Negotiation) (policy : Policy nego) (run : List Occurrence) (marking : PlainMarking) → IsNegotiation nego → IsDeterministic nego → IsSound nego →
+    leaves nego (opening_marking nego) run ≡ Some marking → (steps : List Occurrence) × IsCompletedBy nego policy.choice marking steps
 
 -- In chosen occurrences from a marking that a run leaves to the final one no atom occurs twice.
 abbrev pub ChosenAtomsOccurOnce : Type 0

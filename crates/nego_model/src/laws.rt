@@ -1,6 +1,6 @@
 //! Laws over the definitions. Each function does nothing; its clause is the law.
 
-ghost use Rattle.nego_model.specs.Laws.{CompleteRunsEndWithTheLastAtom, JoinsThroughBetween, OlderNodesKeepTheirMeaning, CompleteRunsPassEveryoneAtTheLastAtom, StepsApartCommute, StepsApartJoinTheSame, NeighboursChangePlaces, NeighboursKeepJoinedData, NeighboursKeepEntries, NeighboursKeepProjections, ReadinessFollowsFromTheProjection, SameProjectionsLeaveTheSame, OwnEntriesProject, ValuesFollowFromOwnEntries, ForwardOrdersRank, FirstAndLastIsAlone, ReducedIsClosable, PoliciesComplete, ChosenAtomsOccurOnce, ChosenPathsDependOnThePlace, OneWayOut, SomeAtomMayBeSwept};
+ghost use Rattle.nego_model.specs.Laws.{CompleteRunsEndWithTheLastAtom, JoinsThroughBetween, OlderNodesKeepTheirMeaning, CompleteRunsPassEveryoneAtTheLastAtom, StepsApartCommute, StepsApartJoinTheSame, NeighboursChangePlaces, NeighboursKeepJoinedData, NeighboursKeepEntries, NeighboursKeepProjections, ReadinessFollowsFromTheProjection, SameProjectionsLeaveTheSame, OwnEntriesProject, ValuesFollowFromOwnEntries, ForwardOrdersRank, FirstAndLastIsAlone, ReducedIsClosable, PoliciesExist, PoliciesComplete, ChosenAtomsOccurOnce, ChosenPathsDependOnThePlace, OneWayOut, SomeAtomMayBeSwept};
 
 /// A complete run isn't empty, and its last entry is of the last atom.
 pub fn complete_runs_end_with_the_last_atom()
@@ -61,6 +61,7 @@ pub fn forward_orders_rank()
 /// last atom. Occurrences by it lead from each marking that a run leaves to the final one. No atom occurs twice in them,
 /// and an agent's path depends on its place alone.
 pub fn policies_complete()
+    ensures exists { PoliciesExist }
     ensures completes { PoliciesComplete }
     ensures once { ChosenAtomsOccurOnce }
     ensures paths { ChosenPathsDependOnThePlace }

@@ -3,9 +3,11 @@ use Rattle.nego_model.proofs.completeness.Policies.{completed}
 use Rattle.nego_model.proofs.completeness.Nearest.{nearest}
 use Rattle.nego_model.proofs.laws.policies_complete.Goals as goal
 
+pub returns-clause-exists : goal.returns-clause-exists
+returns-clause-exists c = nearest
+
 pub returns-clause-completes : goal.returns-clause-completes
-returns-clause-completes c = λ nego ok single sound.
-    (nearest nego ok single sound, λ policy run marking leads. completed nego ok single policy sound marking (record { steps = run; leads = leads }))
+returns-clause-completes c = λ nego policy run marking ok single sound leads. completed nego ok single policy sound marking (record { steps = run; leads = leads })
 
 pub returns-clause-once : goal.returns-clause-once
 returns-clause-once c = λ nego choice run steps marking ok single leads done. none_twice nego ok single choice steps marking (record { steps = run; leads = leads }) done
