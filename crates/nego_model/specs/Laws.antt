@@ -1,8 +1,8 @@
 -- Laws over the definitions, each proved as the clause of a public function.
-use Rattle.std.specs.Prelude.{◌≡◌, ◌≢◌, ◌↔◌, ℕ, ◌<◌, List, [], ◌∷◌, ◌++◌, length, slice_index, Some, IsTrue}
+use Rattle.std.specs.Prelude.{◌≡◌, ◌≢◌, ◌↔◌, ℕ, ◌<◌, List, [], ◌∷◌, ◌++◌, length, Some, IsTrue}
 use Rattle.std.specs.List.{AllPairs}
 use Rattle.nego_base.specs.Members.{is_in}
-use Rattle.nego_data.specs.Data.{data_count, split}
+use Rattle.nego_data.specs.Data.{data_count}
 use Rattle.nego_data.specs.Locality.{AgreeOn}
 use Rattle.nego_model.specs.Negotiation.{Negotiation, IsNegotiation, IsDeterministic, IsOutcome}
 use Rattle.nego_model.specs.Occurring.{PlainMarking, Occurrence, ready, after, leaves, opening_marking, IsComplete, IsSound}
@@ -91,10 +91,11 @@ SameProjectionsLeaveTheSame = (nego : Negotiation) (one two : List Occurrence) (
 abbrev pub OwnEntriesProject : Type 0
 OwnEntriesProject = (nego : Negotiation) (a : ℕ) (history : List Entry) → steps_of (own_entries nego a history) ≡ projection nego a (steps_of history)
 
--- An agent's value after a history is its value after its own entries alone.
+-- An agent has the same values after a history as after its own entries alone, where relations read and change their
+-- parties' values alone.
 abbrev pub ValuesFollowFromOwnEntries : Type 0
-ValuesFollowFromOwnEntries = (nego : Negotiation) (sizes : List ℕ) (meaning : Meaning) (start : ℕ) (history : List Entry) (a : ℕ) → IsLocal nego sizes (Relates meaning) → a < length sizes → start < data_count sizes →
-    IsHistory nego (Relates meaning) start history → slice_index (split sizes (joint_after start history)) a ≡ slice_index (split sizes (joint_after start (own_entries nego a history))) a
+ValuesFollowFromOwnEntries = (nego : Negotiation) (sizes : List ℕ) (meaning : Meaning) (start : ℕ) (history : List Entry) (a : ℕ) → IsLocal nego sizes (Relates meaning) → start < data_count sizes →
+    IsHistory nego (Relates meaning) start history → AgreeOn sizes (a ∷ []) (joint_after start history) (joint_after start (own_entries nego a history))
 
 -- A forward order ranks its negotiation.
 abbrev pub ForwardOrdersRank : Type 0

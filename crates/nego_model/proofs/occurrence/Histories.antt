@@ -1,11 +1,13 @@
 -- Laws of histories, which are runs with the joint data after each entry.
-use Rattle.std.proofs.Common.{◌≡◌, ⊎_elim, ℕ, ◌<◌, List, [], ◌∷◌, ◌++◌, length, slice_index, Some, IsSome, IsTrue, refl, sym, subst, ap, ◌∙◌}
+use Rattle.std.proofs.Common.{◌≡◌, ⊎_elim, ℕ, ◌<◌, List, [], ◌∷◌, ◌++◌, Some, IsSome, IsTrue, refl, sym, subst, ap, ◌∙◌}
 use Rattle.std.proofs.lemmas.Bool.{cond-true, cond-false, false_from_ne_true}
 use Rattle.std.proofs.lemmas.List.{map-append}
 use Rattle.std.proofs.lemmas.List.Elements.{filter-append}
 use Rattle.nego_base.specs.Members.{is_in}
-use Rattle.nego_base.proofs.Members.{in_or_not}
-use Rattle.nego_data.specs.Data.{data_count, split}
+use Rattle.nego_base.proofs.Members.{in_or_not, is_in_single}
+use Rattle.nego_data.specs.Data.{data_count}
+use Rattle.nego_data.specs.Places.{owner_of}
+use Rattle.nego_data.specs.Locality.{AgreeOn}
 use Rattle.nego_model.specs.Negotiation.{Negotiation}
 use Rattle.nego_model.specs.Occurring.{PlainMarking, ready, after, leaves, opening_marking, final_marking}
 use Rattle.nego_model.specs.Joining.{Relation, Entry, steps_of, AreRelated, joint_after, IsHistory, EndsWith, Runs}
@@ -89,25 +91,29 @@ module _ (nego : Negotiation) (sizes : List ℕ) (relation : Relation) (local : 
       let k = leaves-first nego from entry.step (steps_of entries) to e in
       joint_after-below entries entry.joint k.0 to ((local entry.step.0 entry.step.1 (after-outcome nego from entry.step k.0 k.1)).stays d entry.joint below h.0) k.2 h.1
 
-  -- the value of an agent
-  abbrev value : ℕ → ℕ → ℕ
-  value a d = slice_index (split sizes d) a
+  -- what agrees on agents before, agrees on them after the same entries
+  AgreeOn-after : (agents : List ℕ) (d d' : ℕ) (entries : List Entry) → AgreeOn sizes agents d d' → AgreeOn sizes agents (joint_after d entries) (joint_after d' entries)
+  AgreeOn-after agents d d' [] same = same
+  AgreeOn-after agents d d' (entry ∷ entries) same = λ k fits own. refl
 
-  -- who had the same value before has the same after
-  same_after : (a d d' : ℕ) (entries : List Entry) → value a d ≡ value a d' → value a (joint_after d entries) ≡ value a (joint_after d' entries)
-  same_after a d d' [] same = same
-  same_after a d d' (entry ∷ entries) same = refl
+  AgreeOn-through : (agents : List ℕ) (d c e : ℕ) → AgreeOn sizes agents d c → AgreeOn sizes agents c e → AgreeOn sizes agents d e
+  AgreeOn-through agents d c e h h' k fits own = h k fits own ∙ h' k fits own
 
-  -- an agent's value after entries that occur is the one after its own entries
-  pub own_value : (a : ℕ) → a < length sizes → (entries : List Entry) (d : ℕ) (from to : PlainMarking) → d < data_count sizes → leaves nego from (steps_of entries) ≡ Some to → AreRelated relation d entries →
-      slice_index (split sizes (joint_after d entries)) a ≡ slice_index (split sizes (joint_after d (own_entries nego a entries))) a
-  own_value a fits [] d from to below e h = refl
-  own_value a fits (entry ∷ entries) d from to below e h =
+  -- an agent's values after entries that occur are those after its own entries
+  pub own_values : (a : ℕ) (entries : List Entry) (d : ℕ) (from to : PlainMarking) → d < data_count sizes → leaves nego from (steps_of entries) ≡ Some to → AreRelated relation d entries →
+      AgreeOn sizes (a ∷ []) (joint_after d entries) (joint_after d (own_entries nego a entries))
+  own_values a [] d from to below e h = λ k fits own. refl
+  own_values a (entry ∷ entries) d from to below e h =
       let k = leaves-first nego from entry.step (steps_of entries) to e in
       let acts = local entry.step.0 entry.step.1 (after-outcome nego from entry.step k.0 k.1) in
-      let rest = own_value a fits entries entry.joint k.0 to (acts.stays d entry.joint below h.0) k.2 h.1 in
+      let rest = own_values a entries entry.joint k.0 to (acts.stays d entry.joint below h.0) k.2 h.1 in
+      let P : List Entry → Type 0 = λ own. AgreeOn sizes (a ∷ []) (joint_after entry.joint entries) (joint_after d own) in
       ⊎_elim
-      (λ party. rest ∙ ap (λ own. value a (joint_after d own)) (sym (own_entries-party nego a entry entries party)))
+      (λ party. subst P (sym (own_entries-party nego a entry entries party)) rest)
       (λ other.
-      rest ∙ (same_after a entry.joint d (own_entries nego a entries) (sym (acts.changes d entry.joint below h.0 a fits other)) ∙ ap (λ own. value a (joint_after d own)) (sym (own_entries-other nego a entry entries other))))
+      let kept : AgreeOn sizes (a ∷ []) entry.joint d =
+      λ p fits own. sym (acts.changes d entry.joint below h.0 p fits (λ party. other (subst (λ b. IsTrue (is_in b (nego.parties entry.step.0))) (is_in_single (owner_of p) a own) party))) in
+      subst P (sym (own_entries-other nego a entry entries other))
+      (AgreeOn-through (a ∷ []) (joint_after entry.joint entries) (joint_after entry.joint (own_entries nego a entries)) (joint_after d (own_entries nego a entries)) rest
+      (AgreeOn-after (a ∷ []) entry.joint d (own_entries nego a entries) kept)))
       (in_or_not a (nego.parties entry.step.0))
