@@ -6,7 +6,7 @@ use Rattle.nego_base.specs.declared.ids.AgentId.{AgentId}
 use Rattle.nego_base.specs.declared.ids.OutcomeId.{OutcomeId}
 use Rattle.nego_model.specs.Diagram.{PlainDiagram, IsDiagram, nexts_of}
 use Rattle.nego_model.specs.Undetermined.{IsFirstUndetermined}
-use Rattle.nego_model.proofs.Undetermined.{undetermined}
+use Rattle.nego_model.proofs.diagrams.Undetermined.{undetermined}
 use Rattle.nego_reader.specs.Content.{content_of}
 use Rattle.nego_shape.proofs.ShapedDiagrams.{shaped-diagram}
 use Rattle.nego_shape.proofs.SoundShape.{sound_shape}
