@@ -7,7 +7,7 @@ use Rattle.std.proofs.lemmas.List.Elements.{All-head, All-tail, All-weaker}
 use Rattle.nego_base.specs.Members.{is_in}
 use Rattle.nego_model.specs.Summary.{PlainFinal}
 use Rattle.nego_expr.specs.declared.summary.Final.{Final}
-use Rattle.nego_expr.specs.declared.work.Alive.{Alive}
+use Rattle.nego_expr.specs.declared.outcome.Outcome.{Outcome}
 use Rattle.nego_expr.specs.Work.{PlainWork, IsWork}
 use Rattle.nego_expr.specs.Use.{outcomes_at}
 use Rattle.nego_expr.specs.Finish.{finals_of}
@@ -28,7 +28,7 @@ all_at_last work ok one =
     (All-weaker (λ outcome. IsTrue (is_in outcome.atom (map (λ atom. atom.number) work.atoms))) (λ outcome. (outcome.atom == work.last) ≡ true) (λ outcome there. eq-eqb outcome.atom work.last (only_last work ok one outcome.atom there)) work.outcomes ok.own_atom)
 
 -- one final outcome more: the next name, with the node of the outcome at its place
-pub next_final : (finals more : List Final) (name : List ℕ) (names : List (List ℕ)) (outcomes : List Alive) (d x : Alive) →
+pub next_final : (finals more : List Final) (name : List ℕ) (names : List (List ℕ)) (outcomes : List Outcome) (d x : Outcome) →
     length finals < length outcomes → get_or outcomes (length finals) d ≡ x → more ≡ finals ++ record { name = name; node = x.node } ∷ [] →
     map plain_final more ++ finals_of names (drop (length more) (map plain_outcome outcomes)) ≡ map plain_final finals ++ finals_of (name ∷ names) (drop (length finals) (map plain_outcome outcomes))
 next_final finals more name names outcomes d x within here e =

@@ -1,13 +1,12 @@
 -- The summary of a work of one atom.
-use Rattle.std.specs.Prelude.{◌≡◌, ◌↔◌, ℕ, List, [], ◌∷◌, length, map, IsTrue}
+use Rattle.std.specs.Prelude.{◌≡◌, ◌↔◌, ℕ, List, [], ◌∷◌, length, IsTrue}
 use Rattle.nego_base.specs.Members.{is_in}
 use Rattle.nego_model.specs.Occurring.{IsSound}
 use Rattle.nego_model.specs.Joining.{RelationTest, Runs}
-use Rattle.nego_model.specs.Diagram.{PlainDiagram, outcome_name}
-use Rattle.nego_model.specs.Summary.{PlainFinal, PlainSummary, final_outcomes, Tells}
-use Rattle.nego_expr.specs.Work.{WorkOutcome, PlainWork, IsWork, negotiation_of_work, work_outcomes, ByWork}
-use Rattle.nego_expr.specs.Use.{outcomes_at}
-use Rattle.nego_expr.specs.Fresh.{StandsLocally}
+use Rattle.nego_model.specs.Diagram.{PlainDiagram, IsDiagram}
+use Rattle.nego_model.specs.Summary.{PlainFinal, PlainSummary, Tells}
+use Rattle.nego_expr.specs.Work.{WorkOutcome, PlainWork, IsWork, outcomes_at, negotiation_of_work, work_outcomes, ByWork}
+use Rattle.nego_expr.specs.StandsFor.{StandsFor}
 
 -- the names, each with the node of the outcome at its place
 abbrev pub finals_of : List (List ℕ) → List WorkOutcome → List PlainFinal
@@ -26,7 +25,6 @@ OneAtomWorksAreSound = (work : PlainWork) → IsWork work → length work.atoms 
     × ((test : RelationTest) (f d e : ℕ) → IsTrue (is_in f (work_outcomes work work.last)) →
     Runs (negotiation_of_work work) (ByWork test work) f d e ↔ ByWork test work f d e)
 
--- The summary of a work of one atom that stands for a diagram, with the names of its final outcomes, tells the diagram.
+-- The summary of a work of one atom that stands for a diagram tells the diagram.
 abbrev pub FinishedWorksTell : Type 0
-FinishedWorksTell = (diagram : PlainDiagram) (work : PlainWork) → IsWork work → length work.atoms ≡ 1 → StandsLocally work diagram →
-    work.names ≡ map (outcome_name diagram) (final_outcomes diagram) → Tells (summary_of_work work) diagram
+FinishedWorksTell = (diagram : PlainDiagram) (work : PlainWork) → IsDiagram diagram → length work.atoms ≡ 1 → StandsFor work diagram → Tells (summary_of_work work) diagram

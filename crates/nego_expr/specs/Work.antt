@@ -53,9 +53,13 @@ outcome_at work o = outcome_among work.outcomes o
 abbrev pub work_parties : PlainWork → ℕ → List ℕ
 work_parties work n = parties_among work.atoms n
 
+-- the alive outcomes of an atom, in their order
+abbrev pub outcomes_at : PlainWork → ℕ → List WorkOutcome
+outcomes_at work n = filter (λ outcome. outcome.atom == n) work.outcomes
+
 -- the numbers of an atom's alive outcomes, rising
 abbrev pub work_outcomes : PlainWork → ℕ → List ℕ
-work_outcomes work n = map (λ outcome. outcome.number) (filter (λ outcome. outcome.atom == n) work.outcomes)
+work_outcomes work n = map (λ outcome. outcome.number) (outcomes_at work n)
 
 -- where an alive outcome sends an agent
 abbrev pub sent_to : WorkOutcome → ℕ → Option ℕ
@@ -77,9 +81,9 @@ negotiation_of_work work = record {
 abbrev pub ByWork : RelationTest → PlainWork → Relation
 ByWork test work o d e = MatchOption (outcome_at work o) ⊥ (λ outcome. Means (By test) work.nodes outcome.node d e)
 
--- The conditions of a work: it is a negotiation; its nodes are a list of nodes, and each alive outcome has one of
--- them; numbers never used are above those that are alive; the last atom's outcomes have their names; each base under
--- an alive outcome's node is an outcome that was read, and its parties are parties of the alive outcome's atom.
+-- The conditions of a work: it is a negotiation; its nodes are a list of nodes, each base among them is an outcome that
+-- was read, and each alive outcome has one of them; numbers never used are above those that are alive; the last atom's
+-- outcomes have their names; the parties of each base under an alive outcome's node are parties of its atom.
 pub record IsWork (work : PlainWork) : Type 0 where
   pub form : IsNegotiation (negotiation_of_work work)
   pub numbers_rise : IsRising (map (λ outcome. outcome.number) work.outcomes)
@@ -89,5 +93,5 @@ pub record IsWork (work : PlainWork) : Type 0 where
   pub nodes : IsNodeList work.nodes
   pub nodes_there : All (λ outcome. outcome.node < length work.nodes) work.outcomes
   pub named : length work.names ≡ length (work_outcomes work work.last)
-  pub bases_there : All (λ outcome. EachBase (λ o. o < length work.bases) work.nodes outcome.node) work.outcomes
+  pub bases_read : AllBases (λ o. o < length work.bases) work.nodes
   pub bases_within : All (λ outcome. EachBase (λ o. IsTrue (all_in (slice_index_or work.bases o []) (work_parties work outcome.atom))) work.nodes outcome.node) work.outcomes

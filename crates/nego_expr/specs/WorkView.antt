@@ -1,13 +1,13 @@
--- How the fields of a work are seen, and what holds of them at every moment.
+-- How the program's outcomes and works are seen, and what holds of a work's fields at every moment.
 use Rattle.std.specs.Prelude.{◌≡◌, ℕ, ◌-◌, ◌<◌, ◌≤◌, List, [], length, map, min, slice_index_or, All}
 use Rattle.nego_base.specs.Members.{IsRising}
-use Rattle.nego_expr.specs.declared.work.Alive.{Alive}
+use Rattle.nego_expr.specs.declared.outcome.Outcome.{Outcome}
 use Rattle.nego_expr.specs.declared.work.Work.TheInside.{Inside}
 use Rattle.nego_expr.specs.Work.{WorkAtom, WorkOutcome, PlainWork}
-use Rattle.nego_expr.specs.Plain.{RoomyWork}
+use Rattle.nego_expr.specs.Room.{RoomyWork}
 
 -- an alive outcome, without the wrapping of its numbers
-abbrev pub plain_outcome : Alive → WorkOutcome
+abbrev pub plain_outcome : Outcome → WorkOutcome
 plain_outcome x = record { number = x.number.0; atom = x.atom.0; targets = x.targets; node = x.node.0; passed = x.passed }
 
 -- the atom of a number, of the parties of all atoms

@@ -1,13 +1,15 @@
 //! The edits of a work. None takes memory, and each is safe after any other: the rules make their effects of them.
-ghost use Rattle.std.specs.Prelude.{◌≡◌, ◌-◌, ◌<◌, ◌≤◌, All, IsTrue, IsSome, length, map};
+ghost use Rattle.std.specs.Prelude.{◌≡◌, ◌==◌, ◌+◌, ◌-◌, ◌<◌, ◌≤◌, ◌++◌, ◌∷◌, [], All, filter, IsTrue, IsSome, Some, length, map, option_map};
 ghost use Rattle.nego_base.specs.Members.{is_in};
 ghost use Rattle.nego_model.specs.Expression.{children};
-ghost use Rattle.nego_expr.specs.Work.{outcome_at};
-ghost use Rattle.nego_expr.specs.Plain.{plain_node, with_node, add_outcome, set_outcome, drop_outcome, drop_atom};
+ghost use Rattle.nego_expr.specs.Work.{outcome_at, outcomes_at};
+ghost use Rattle.nego_expr.specs.Edits.{nodes_then, then_each, with_nodes_at, with_outcome, without_atom, without_outcome};
+ghost use Rattle.nego_expr.specs.NodeView.{plain_node};
+ghost use Rattle.nego_expr.specs.WorkView.{plain_outcome};
 
-use crate::work::{Alive, place_of};
-use crate::{Node, Targets, Work};
-use nego_base::{AtomId, AtomSet, NodeId, OutcomeId};
+use crate::work::place_of;
+use crate::{Node, Nodes, Outcome, Targets, Work};
+use nego_base::{AtomId, AtomSet, NodeId, OutcomeId, Reserved};
 
 impl Work {
     /// Adds a node, of which the children are there.
@@ -15,7 +17,7 @@ impl Work {
         requires spare { 0 < self.old.spare_nodes }
         requires children { All (λ child. child < length self.old.plain.nodes) (children (plain_node n)) }
         ensures number { result.0 ≡ length self.old.plain.nodes }
-        ensures plain { self.new.plain ≡ with_node self.old.plain (plain_node n) }
+        ensures plain { self.new.plain ≡ record self.old.plain { nodes = self.old.plain.nodes ++ plain_node n ∷ [] } }
         ensures spare { self.new.spare_nodes ≡ self.old.spare_nodes - 1 }
         ensures kept { self.old.spare_outcomes ≤ self.new.spare_outcomes }
     {
@@ -35,13 +37,17 @@ impl Work {
         requires fit { length targets ≡ self.old.plain.agents }
         requires there { node.0 < length self.old.plain.nodes }
         ensures number { result.0 ≡ self.old.plain.numbers }
-        ensures plain { self.new.plain ≡ add_outcome self.old.plain n.0 targets node.0 passed }
+        ensures plain { self.new.plain ≡ record self.old.plain {
+            numbers = self.old.plain.numbers + 1;
+            outcomes = self.old.plain.outcomes
+                ++ record { number = self.old.plain.numbers; atom = n.0; targets = targets; node = node.0; passed = passed } ∷ [];
+        } }
         ensures spare { self.new.spare_outcomes ≡ self.old.spare_outcomes - 1 }
         ensures kept { self.old.spare_nodes ≤ self.new.spare_nodes }
     {
         let number = OutcomeId(self.numbers);
         self.numbers += 1;
-        self.outcomes.push(Alive {
+        self.outcomes.push(Outcome {
             number,
             atom: n,
             targets,
@@ -56,7 +62,9 @@ impl Work {
         requires alive { IsSome (outcome_at self.old.plain o.0) }
         requires fit { length targets ≡ self.old.plain.agents }
         requires there { node.0 < length self.old.plain.nodes }
-        ensures plain { self.new.plain ≡ set_outcome self.old.plain o.0 targets node.0 passed }
+        ensures plain { Some self.new.plain ≡ option_map (λ x. record self.old.plain {
+            outcomes = with_outcome (record x { targets = targets; node = node.0; passed = passed }) self.old.plain.outcomes;
+        }) (outcome_at self.old.plain o.0) }
         ensures kept { (self.old.spare_nodes ≤ self.new.spare_nodes) × (self.old.spare_outcomes ≤ self.new.spare_outcomes) }
     {
         let outcomes = self.outcomes.as_slice();
@@ -64,7 +72,7 @@ impl Work {
         let atom = outcomes[i].atom;
         self.outcomes.set(
             i,
-            Alive {
+            Outcome {
                 number: o,
                 atom,
                 targets,
@@ -77,7 +85,7 @@ impl Work {
     /// Takes an alive outcome away.
     pub fn drop_outcome(&mut self, o: OutcomeId)
         requires alive { IsSome (outcome_at self.old.plain o.0) }
-        ensures plain { self.new.plain ≡ drop_outcome self.old.plain o.0 }
+        ensures plain { self.new.plain ≡ record self.old.plain { outcomes = without_outcome o.0 self.old.plain.outcomes } }
         ensures kept { (self.old.spare_nodes ≤ self.new.spare_nodes) × (self.old.spare_outcomes ≤ self.new.spare_outcomes) }
     {
         let i = place_of(self.outcomes.as_slice(), o).unwrap();
@@ -87,7 +95,7 @@ impl Work {
     /// Takes an atom and its outcomes away.
     pub fn drop_atom(&mut self, n: AtomId)
         requires left { IsTrue (is_in n.0 (map (λ atom. atom.number) self.old.plain.atoms)) }
-        ensures plain { self.new.plain ≡ drop_atom self.old.plain n.0 }
+        ensures plain { self.new.plain ≡ without_atom n.0 self.old.plain }
         ensures kept { (self.old.spare_nodes ≤ self.new.spare_nodes) × (self.old.spare_outcomes ≤ self.new.spare_outcomes) }
     {
         self.left = self.left.without(n);
@@ -101,5 +109,37 @@ impl Work {
         ensures kept { (self.old.spare_nodes ≤ self.new.spare_nodes) × (self.old.spare_outcomes ≤ self.new.spare_outcomes) }
     {
         self.first = n;
+    }
+
+    /// Puts a node before the node of each outcome of an atom: each has a new node, which is the one and then its own.
+    pub fn then_each(&mut self, x: NodeId, n: AtomId)
+        requires spare { length (outcomes_at self.old.plain n.0) ≤ self.old.spare_nodes }
+        requires there { x.0 < length self.old.plain.nodes }
+        ensures plain { self.new.plain ≡ then_each x.0 n.0 self.old.plain }
+        ensures kept { self.old.spare_outcomes ≤ self.new.spare_outcomes }
+    {
+        then_each(&mut self.nodes, &mut self.outcomes, x, n);
+    }
+}
+
+/// Each outcome of the atom has a new node, which is the node x and then its own.
+fn then_each(nodes: &mut Nodes, outcomes: &mut Reserved<Outcome>, x: NodeId, n: AtomId)
+    requires spare { length (filter (λ z. z.atom.0 == n.0) outcomes.old.items) ≤ nodes.old.room }
+    requires there { x.0 < length nodes.old.nodes }
+    requires nodes { All (λ z. z.node < length nodes.old.nodes) (map plain_outcome outcomes.old.items) }
+    ensures nodes { nodes.new.nodes ≡ nodes.old.nodes ++ nodes_then x.0 (filter (λ z. z.atom == n.0) (map plain_outcome outcomes.old.items)) }
+    ensures outcomes { map plain_outcome outcomes.new.items ≡ with_nodes_at n.0 (length nodes.old.nodes) (map plain_outcome outcomes.old.items) }
+    ensures room { outcomes.new.room ≡ outcomes.old.room }
+{
+    for i in 0..outcomes.len() {
+        let outcome = &outcomes.as_slice()[i];
+        if outcome.atom == n {
+            let node = nodes.push(Node::Then(x, outcome.node));
+            let next = Outcome {
+                node,
+                ..outcome.copy()
+            };
+            outcomes.set(i, next);
+        }
     }
 }

@@ -5,8 +5,7 @@ ghost use Rattle.nego_expr.specs.Finish.{finals_of, summary_of_work};
 ghost use Rattle.nego_expr.specs.SummaryText.{plain_final, plain_summary};
 ghost use Rattle.nego_expr.specs.WorkView.{plain_outcome};
 
-use crate::work::Alive;
-use crate::{Final, Summary, Work};
+use crate::{Final, Outcome, Summary, Work};
 use nego_base::{Memory, Seq, Text};
 
 impl Work {
@@ -29,7 +28,7 @@ impl Work {
 }
 
 /// Each name, with the node of the outcome at its place.
-fn finals_of(names: Seq<Text>, outcomes: &[Alive]) -> Result<Seq<Final>, Memory>
+fn finals_of(names: Seq<Text>, outcomes: &[Outcome]) -> Result<Seq<Final>, Memory>
     requires { length names ≡ length outcomes.now }
     ensures { IfOk result (λ finals. map plain_final finals ≡ finals_of names (map plain_outcome outcomes.now)) }
 {

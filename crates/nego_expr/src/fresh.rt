@@ -1,19 +1,17 @@
 //! The work that a deterministic diagram begins as.
-ghost use Rattle.std.specs.Prelude.{◌≡◌, ◌<◌, ◌≤◌, length, map, slice_get, IfOk, OnOk, IfErr};
+ghost use Rattle.std.specs.Prelude.{◌≡◌, ◌<◌, ◌≤◌, length, map, slice_get, IfOk, IfErr};
 ghost use Rattle.std.specs.List.{range_with_len};
-ghost use Rattle.nego_model.specs.Negotiation.{IsDeterministic};
 ghost use Rattle.nego_model.specs.Expression.{Base};
-ghost use Rattle.nego_model.specs.Diagram.{IsDiagram, negotiation_of, parties_of, nexts_of, outcome_name};
+ghost use Rattle.nego_model.specs.Diagram.{parties_of, nexts_of, outcome_name};
 ghost use Rattle.nego_model.specs.Limits.{IsWithinLimits};
 ghost use Rattle.nego_model.specs.Summary.{final_outcomes};
-ghost use Rattle.nego_expr.specs.Work.{IsWork};
-ghost use Rattle.nego_expr.specs.Fresh.{HasTheRuns, Stands, fresh_at, fresh_work, outcomes_of};
-ghost use Rattle.nego_expr.specs.Plain.{WorkFaultHolds};
+ghost use Rattle.nego_expr.specs.Fresh.{fresh_at, fresh_work, outcomes_of};
+ghost use Rattle.nego_expr.specs.StandsFor.{HasTheRuns, IsFresh, StandsFor};
 ghost use Rattle.nego_expr.specs.Use.{most_nodes};
+ghost use Rattle.nego_expr.specs.WorkFault.{WorkFaultHolds};
 ghost use Rattle.nego_expr.specs.WorkView.{plain_outcome};
 
-use crate::work::Alive;
-use crate::{Node, Nodes, Targets, Work, WorkFault};
+use crate::{Node, Nodes, Outcome, Targets, Work, WorkFault};
 use nego_base::{
     AgentId, AgentSet, AtomId, AtomSet, Memory, NodeId, OutcomeId, Reserved, Seq, Text,
 };
@@ -25,11 +23,9 @@ impl Work {
     /// expression.
     pub fn new(alloc: Global, d: &Diagram) -> Result<Work, WorkFault>
         ensures ok { IfOk result (λ w. w.plain ≡ fresh_work d.now) }
-        ensures work { IfOk result (λ w. IsWork w.plain) }
-        ensures stands { IfOk result (λ w. Stands w.plain d.now) }
-        ensures diagram { IsDiagram d.now }
+        ensures fresh { IfOk result (λ w. IsFresh w.plain d.now) }
+        ensures stands { IfOk result (λ w. StandsFor w.plain d.now) }
         ensures runs { IfOk result (λ w. HasTheRuns w.plain d.now) }
-        ensures determined { OnOk result (IsDeterministic (negotiation_of d.now)) }
         // `NotDeterministic` comes exactly where the diagram isn't, with the least pair.
         ensures err { IfErr result (λ e. WorkFaultHolds d.now e) }
     {
@@ -95,7 +91,7 @@ fn base_nodes(alloc: Global, count: u32) -> Result<Nodes, Memory>
 }
 
 /// The alive outcomes: all that there are.
-fn outcomes_of(alloc: Global, d: &Diagram) -> Result<Reserved<Alive>, Memory>
+fn outcomes_of(alloc: Global, d: &Diagram) -> Result<Reserved<Outcome>, Memory>
     ensures { IfOk result (λ outcomes. map plain_outcome outcomes.items ≡ outcomes_of d.now 0 d.now.outcomes) }
 {
     let mut outcomes = Reserved::new(alloc, d.outcomes() as usize)?;
@@ -106,11 +102,11 @@ fn outcomes_of(alloc: Global, d: &Diagram) -> Result<Reserved<Alive>, Memory>
 }
 
 /// The outcome as it is alive at first.
-fn fresh_outcome(alloc: Global, d: &Diagram, o: OutcomeId) -> Alive
+fn fresh_outcome(alloc: Global, d: &Diagram, o: OutcomeId) -> Outcome
     requires { o.0 < length d.now.outcomes }
     ensures { plain_outcome result ≡ fresh_at d.now o.0 }
 {
-    Alive {
+    Outcome {
         number: o,
         atom: d.atom_of(o),
         targets: targets_after(alloc, d, o),

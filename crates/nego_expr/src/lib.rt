@@ -8,6 +8,7 @@ mod finish;
 mod fresh;
 mod laws;
 mod node;
+mod outcome;
 mod room;
 mod summary;
 mod targets;
@@ -16,8 +17,11 @@ mod tests;
 mod uses;
 mod work;
 
-pub use laws::{finished_works_tell, fresh_works_stand, one_atom_works_are_sound, works_are_local};
+pub use laws::{
+    finished_works_tell, fresh_works_stand, one_atom_works_are_sound, uses_that_lead, works_are_local,
+};
 pub use node::{Node, Nodes};
+pub use outcome::Outcome;
 pub use summary::{Final, Summary, print_summary};
 pub use targets::Targets;
 pub use uses::{RuleFault, Use, Uses, WorkFault};

@@ -1,7 +1,7 @@
 //! Nodes of expressions, and lists of them.
 ghost use Rattle.std.specs.Prelude.{◌≡◌, ◌==◌, ◌+◌, ◌-◌, ◌<◌, ◌≤◌, [], ◌∷◌, ◌++◌, length, map, max, slice_get, option_map, All, IfOk, OnOk, OnErr};
 ghost use Rattle.nego_model.specs.Expression.{IsNodeList, children};
-ghost use Rattle.nego_expr.specs.Plain.{plain_node};
+ghost use Rattle.nego_expr.specs.NodeView.{plain_node};
 ghost use Rattle.nego_expr.specs.Use.{most_nodes};
 
 use nego_base::{Memory, NodeId, OutcomeId, Reserved};
@@ -31,7 +31,8 @@ pub struct Nodes {
 impl Model for Nodes {
     ghost use Rattle.std.specs.Prelude.{◌+◌, ◌≤◌, length, map};
     ghost use Rattle.nego_model.specs.Expression.{IsNodeList};
-    ghost use Rattle.nego_expr.specs.Plain.{RoomyNodes, plain_node};
+    ghost use Rattle.nego_expr.specs.NodeView.{plain_node};
+    ghost use Rattle.nego_expr.specs.Room.{RoomyNodes};
     ghost use Rattle.nego_expr.specs.Use.{most_nodes};
 
     ghost Value = { RoomyNodes };

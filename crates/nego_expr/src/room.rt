@@ -1,5 +1,5 @@
 //! Room for more nodes and outcomes, made before the edits that need it.
-ghost use Rattle.std.specs.Prelude.{◌≡◌, ◌≢◌, ◌+◌, ◌<◌, ◌≤◌, IfErr, OnOk, Err, length};
+ghost use Rattle.std.specs.Prelude.{◌≡◌, ◌≢◌, ◌↔◌, ◌+◌, ◌<◌, ◌≤◌, OnOk, Err, length};
 ghost use Rattle.nego_expr.specs.Use.{most_nodes};
 
 use crate::{RuleFault, Work};
@@ -13,8 +13,7 @@ impl Work {
         ensures plain { self.new.plain ≡ self.old.plain }
         ensures ok { OnOk result ((nodes ≤ self.new.spare_nodes) × (outcomes ≤ self.new.spare_outcomes)) }
         ensures kept { (self.old.spare_nodes ≤ self.new.spare_nodes) × (self.old.spare_outcomes ≤ self.new.spare_outcomes) }
-        ensures nodes { most_nodes < length self.old.plain.nodes + nodes → result ≡ Err RuleFault.Nodes }
-        ensures fits { IfErr result (λ e. e ≡ RuleFault.Nodes → most_nodes < length self.old.plain.nodes + nodes) }
+        ensures nodes { (result ≡ Err RuleFault.Nodes) ↔ (most_nodes < length self.old.plain.nodes + nodes) }
         ensures never { result ≢ Err RuleFault.Guard }
     {
         if nodes > MAX_NODES - self.nodes.len() {

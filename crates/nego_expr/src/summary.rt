@@ -1,6 +1,6 @@
 //! Summaries, and their text.
 ghost use Rattle.std.specs.Prelude.{◌≡◌, ◌++◌, ℕ, List, codes, decimal, map, IfOk, OnOk};
-ghost use Rattle.nego_expr.specs.Plain.{plain_node};
+ghost use Rattle.nego_expr.specs.NodeView.{plain_node};
 ghost use Rattle.nego_expr.specs.SummaryText.{Appends, plain_final, plain_summary, node_words, node_line, node_lines, final_line, final_lines, summary_text};
 
 use crate::{Node, Nodes};

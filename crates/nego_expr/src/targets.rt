@@ -1,5 +1,5 @@
 //! Where an outcome sends the agents.
-ghost use Rattle.std.specs.Prelude.{◌≡◌, ◌<◌, ◌≤◌, Some, None, replicate, length, slice_get, slice_set, option_map};
+ghost use Rattle.std.specs.Prelude.{◌≡◌, ◌<◌, ◌≤◌, Some, None, replicate, length, slice_get, slice_index_or, slice_set, option_map};
 
 use nego_base::{AgentId, AtomId};
 use smallvec::SmallVec;
@@ -44,6 +44,13 @@ impl Targets {
         ensures { slice_get self.now a.0 ≡ Some (option_map (λ n. n.0) result) }
     {
         self.entries.as_slice()[a.0 as usize]
+    }
+
+    /// The same for an agent of any number: one past the end is sent nowhere.
+    pub(crate) fn entry(&self, a: AgentId) -> Option<AtomId>
+        ensures { option_map (λ n. n.0) result ≡ slice_index_or self.now a.0 None }
+    {
+        self.entries.as_slice().get(a.0 as usize).copied().flatten()
     }
 
     /// Sends the agent to the atom.

@@ -1,7 +1,7 @@
 //! Values made and printed, against a worked answer.
 ghost use Rattle.std.specs.Prelude.{◌<◌, All, IsTrue};
 ghost use Rattle.nego_model.specs.Expression.{children};
-ghost use Rattle.nego_expr.specs.Plain.{plain_node};
+ghost use Rattle.nego_expr.specs.NodeView.{plain_node};
 
 use crate::{Final, Node, Nodes, Summary, Targets, print_summary};
 use nego_base::{AgentId, AtomId, NodeId, OutcomeId, Seq, Text};

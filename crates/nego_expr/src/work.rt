@@ -2,24 +2,12 @@
 ghost use Rattle.std.specs.Prelude.{◌≡◌, ◌==◌, ◌<◌, ◌≤◌, Some, None, IfSome, IfNone, slice_get, IsTrue, IsSome, length, map, is_some, option_map};
 ghost use Rattle.std.specs.List.{filter};
 ghost use Rattle.nego_base.specs.Members.{is_in, IsRising};
-ghost use Rattle.nego_expr.specs.Work.{outcome_at, outcome_among, sent_to, work_parties};
-ghost use Rattle.nego_expr.specs.Use.{outcomes_at};
+ghost use Rattle.nego_expr.specs.Work.{outcome_at, outcome_among, outcomes_at, sent_to, work_parties};
 ghost use Rattle.nego_expr.specs.WorkView.{plain_outcome};
 
-use crate::{Nodes, Targets};
+use crate::{Nodes, Outcome, Targets};
 use nego_base::{AgentId, AgentSet, AtomId, AtomSet, NodeId, OutcomeId, Reserved, Seq, Text};
 use std::marker::Model;
-
-/// An alive outcome: its number, its atom, where it sends the agents, the node of its expression, and the atoms that
-/// it passed.
-#[derive(Debug, Drop)]
-pub(crate) struct Alive {
-    pub(crate) number: OutcomeId,
-    pub(crate) atom: AtomId,
-    pub(crate) targets: Targets,
-    pub(crate) node: NodeId,
-    pub(crate) passed: AtomSet,
-}
 
 /// A diagram under rewriting. Contracts see a plain work, and for how many more nodes and outcomes there is room.
 /// No reader takes memory, nor does an edit, for which there is to be room.
@@ -36,7 +24,7 @@ pub struct Work {
     /// The least number of an outcome that was never used.
     pub(crate) numbers: u32,
     /// The alive outcomes, by rising number.
-    pub(crate) outcomes: Reserved<Alive>,
+    pub(crate) outcomes: Reserved<Outcome>,
     /// The names of the last atom's outcomes, in their order.
     pub(crate) names: Seq<Text>,
     /// For each outcome that was read the parties of its atom: what contracts speak of, and nothing reads.
@@ -44,7 +32,7 @@ pub struct Work {
 }
 
 impl Model for Work {
-    ghost use Rattle.nego_expr.specs.Plain.{RoomyWork};
+    ghost use Rattle.nego_expr.specs.Room.{RoomyWork};
 
     ghost Value = { RoomyWork };
 
@@ -56,20 +44,13 @@ impl Model for Work {
 }
 
 /// The place of the outcome of a number, where there is one.
-pub(crate) fn place_of(outcomes: &[Alive], o: OutcomeId) -> Option<usize>
+pub(crate) fn place_of(outcomes: &[Outcome], o: OutcomeId) -> Option<usize>
     requires { IsRising (map (λ outcome. outcome.number) (map plain_outcome outcomes.now)) }
     ensures found { IfSome result (λ i. option_map plain_outcome (slice_get outcomes.now i) ≡ outcome_among (map plain_outcome outcomes.now) o.0) }
     ensures there { IfSome result (λ i. i < length outcomes.now) }
     ensures none { IfNone result (outcome_among (map plain_outcome outcomes.now) o.0 ≡ None) }
 {
     outcomes.binary_search_by_key(&o.0, |x| x.number.0).ok()
-}
-
-/// How many outcomes are of an atom.
-fn count_at(outcomes: &[Alive], n: AtomId) -> usize
-    ensures { result ≡ length (filter (λ x. x.atom.0 == n.0) outcomes.now) }
-{
-    outcomes.iter().filter(|x| x.atom == n).count()
 }
 
 impl Work {
@@ -124,29 +105,33 @@ impl Work {
         self.numbers
     }
 
+    /// The alive outcomes, by rising number.
+    pub fn outcomes(&self) -> &[Outcome]
+        ensures { map plain_outcome result.now ≡ self.now.plain.outcomes }
+    {
+        self.outcomes.as_slice()
+    }
+
+    /// The alive outcome of a number, where there is one.
+    pub fn outcome(&self, o: OutcomeId) -> Option<&Outcome>
+        ensures { option_map (λ x. plain_outcome x.now) result ≡ outcome_at self.now.plain o.0 }
+    {
+        let outcomes = self.outcomes.as_slice();
+        outcomes.get(place_of(outcomes, o)?)
+    }
+
     /// How many alive outcomes an atom has.
     pub fn count_of(&self, n: AtomId) -> u32
         ensures { result ≡ length (outcomes_at self.now.plain n.0) }
     {
-        count_at(self.outcomes.as_slice(), n) as u32
+        self.outcomes().iter().filter(|x| x.atom == n).count() as u32
     }
 
     /// Whether there is an alive outcome of this number.
     pub fn alive(&self, o: OutcomeId) -> bool
         ensures { result ≡ is_some (outcome_at self.now.plain o.0) }
     {
-        place_of(self.outcomes.as_slice(), o).is_some()
-    }
-
-    /// The alive outcome of a number.
-    pub(crate) fn outcome(&self, o: OutcomeId) -> &Alive
-        requires { IsSome (outcome_at self.now.plain o.0) }
-        ensures value { outcome_at self.now.plain o.0 ≡ Some (plain_outcome result.now) }
-        ensures fit { length result.now.targets ≡ self.now.plain.agents }
-        ensures there { result.now.node.0 < length self.now.plain.nodes }
-    {
-        let outcomes = self.outcomes.as_slice();
-        &outcomes[place_of(outcomes, o).unwrap()]
+        self.outcome(o).is_some()
     }
 
     /// The atom of an alive outcome.
@@ -154,7 +139,7 @@ impl Work {
         requires { IsSome (outcome_at self.now.plain o.0) }
         ensures { option_map (λ x. x.atom) (outcome_at self.now.plain o.0) ≡ Some result.0 }
     {
-        self.outcome(o).atom
+        self.outcome(o).unwrap().atom
     }
 
     /// Where an alive outcome sends each agent.
@@ -162,7 +147,7 @@ impl Work {
         requires { IsSome (outcome_at self.now.plain o.0) }
         ensures { option_map (λ x. x.targets) (outcome_at self.now.plain o.0) ≡ Some result.now }
     {
-        &self.outcome(o).targets
+        &self.outcome(o).unwrap().targets
     }
 
     /// Where an alive outcome sends an agent.
@@ -171,16 +156,15 @@ impl Work {
         requires agent { a.0 < self.now.plain.agents }
         ensures { option_map (λ x. sent_to x a.0) (outcome_at self.now.plain o.0) ≡ Some (option_map (λ n. n.0) result) }
     {
-        self.outcome(o).targets.get(a)
+        self.outcome(o).unwrap().target(a)
     }
 
     /// The node of an alive outcome's expression.
     pub fn node_of(&self, o: OutcomeId) -> NodeId
         requires { IsSome (outcome_at self.now.plain o.0) }
-        ensures value { option_map (λ x. x.node) (outcome_at self.now.plain o.0) ≡ Some result.0 }
-        ensures there { result.0 < length self.now.plain.nodes }
+        ensures { option_map (λ x. x.node) (outcome_at self.now.plain o.0) ≡ Some result.0 }
     {
-        self.outcome(o).node
+        self.outcome(o).unwrap().node
     }
 
     /// The atoms that an alive outcome passed.
@@ -188,6 +172,6 @@ impl Work {
         requires { IsSome (outcome_at self.now.plain o.0) }
         ensures { option_map (λ x. x.passed) (outcome_at self.now.plain o.0) ≡ Some result }
     {
-        self.outcome(o).passed
+        self.outcome(o).unwrap().passed
     }
 }

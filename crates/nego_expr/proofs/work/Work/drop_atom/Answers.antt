@@ -4,7 +4,7 @@ use Rattle.std.proofs.lemmas.List.Elements.{All-filter}
 use Rattle.std.proofs.lemmas.Fn.{filter_same}
 use Rattle.std.proofs.lemmas.List.Filters.{length-filter_both}
 use Rattle.nego_base.proofs.Members.{All-member}
-use Rattle.nego_expr.specs.declared.work.Alive.{Alive}
+use Rattle.nego_expr.specs.declared.outcome.Outcome.{Outcome}
 use Rattle.nego_expr.specs.Work.{WorkAtom, WorkOutcome}
 use Rattle.nego_expr.specs.WorkView.{plain_outcome, plain_work, atom_among, AreAlive}
 use Rattle.nego_expr.proofs.Places.{filter-seen}
@@ -20,8 +20,8 @@ without-self-inside-requires c =
     omega (arith, below, few)
 
 -- the items that are kept
-kept : (c : goal.After-retain) → c.retain.new.self.items ≡ filter (λ (x : Alive). not (x.atom.0 == c.args.n.0)) c.self.inside.outcomes.items
-kept c = filter_same _ (λ (x : Alive). not (x.atom.0 == c.args.n.0)) _ (λ x b f called. search rules) _ _ c.retain.ensures.items
+kept : (c : goal.After-retain) → c.retain.new.self.items ≡ filter (λ (x : Outcome). not (x.atom.0 == c.args.n.0)) c.self.inside.outcomes.items
+kept c = filter_same _ (λ (x : Outcome). not (x.atom.0 == c.args.n.0)) _ (λ x b f called. search rules) _ _ c.retain.ensures.items
 
 -- the outcomes after the edit
 after : (c : goal.After-retain) → map plain_outcome c.retain.new.self.items ≡ filter (λ x. not (x.atom == c.args.n.0)) (map plain_outcome c.self.inside.outcomes.items)
@@ -48,7 +48,7 @@ returns-clause-plain c =
 
 pub returns-clause-kept : goal.returns-clause-kept
 returns-clause-kept c =
-    let all = length-filter_both (λ (x : Alive). not (x.atom.0 == c.args.n.0)) (λ x. not (not (x.atom.0 == c.args.n.0))) (λ x. refl) c.self.inside.outcomes.items in
+    let all = length-filter_both (λ (x : Outcome). not (x.atom.0 == c.args.n.0)) (λ x. not (not (x.atom.0 == c.args.n.0))) (λ x. refl) c.self.inside.outcomes.items in
     let same = ap length (kept c) in
     let more : c.self.inside.outcomes.room ≤ c.retain.new.self.room = omega (arith, all, same, c.retain.ensures.room) in
     rw (← c.self.view_is) (omega arith, omega (arith, more))

@@ -1,5 +1,5 @@
 use Rattle.std.proofs.Common.{◌≡◌, ℕ, ◌==◌, not, List, Option, length, map, option_map, slice_get, sym, subst, ap, IfSome, ◌∙◌}
-use Rattle.nego_expr.specs.declared.work.Alive.{Alive}
+use Rattle.nego_expr.specs.declared.outcome.Outcome.{Outcome}
 use Rattle.std.specs.List.{filter}
 use Rattle.nego_expr.specs.Work.{outcome_among}
 use Rattle.nego_expr.specs.Plain.{with_outcomes}
@@ -12,7 +12,7 @@ use Rattle.nego_expr.proofs.work.Work.drop_outcome.Goals as goal
 after : (c : goal.Joined-remove) → map plain_outcome c.remove.new.self.items ≡ filter (λ x. not (x.number == c.args.o.0)) (map plain_outcome c.self.inside.outcomes.items)
 after c =
     let i = c.unwrap-i.result in
-    let found = subst (λ (xs : List Alive). option_map plain_outcome (slice_get xs i) ≡ outcome_among (map plain_outcome xs) c.args.o.0) c.as_slice.ensures
+    let found = subst (λ (xs : List Outcome). option_map plain_outcome (slice_get xs i) ≡ outcome_among (map plain_outcome xs) c.args.o.0) c.as_slice.ensures
     (subst (λ (r : Option ℕ). IfSome r (λ k. option_map plain_outcome (slice_get c.as_slice.result.now k) ≡ outcome_among (map plain_outcome c.as_slice.result.now) c.args.o.0)) c.unwrap-i.ensures c.place_of.ensures.found) in
     ap (map plain_outcome) c.remove.ensures.items
     ∙ remove-found plain_outcome c.self.inside.outcomes.items c.args.o.0 i c.remove.result c.self.invariant.alive.rising c.remove.ensures.value found

@@ -1,5 +1,5 @@
 use Rattle.std.proofs.Common.{◌≡◌, ℕ, ◌<◌, ◌==◌, cond, List, Option, length, map, option_map, slice_get, slice_index_or, sym, subst, ap, ap₂, IfSome, ◌∙◌}
-use Rattle.nego_expr.specs.declared.work.Alive.{Alive}
+use Rattle.nego_expr.specs.declared.outcome.Outcome.{Outcome}
 use Rattle.nego_expr.specs.Work.{WorkOutcome, outcome_among}
 use Rattle.nego_expr.specs.Plain.{RoomyWork, changed, with_outcomes}
 use Rattle.nego_expr.specs.WorkView.{plain_outcome, plain_work, AreAlive}
@@ -14,14 +14,14 @@ after c =
     let items = c.self.inside.outcomes.items in
     let i = c.unwrap-i.result in
     let x = c.index-outcomes-i.result in
-    let y : Alive = record { number = c.args.o; atom = (slice_index_or c.as_slice-outcomes.result.now i x).atom; targets = c.args.targets; node = c.args.node; passed = c.args.passed } in
+    let y : Outcome = record { number = c.args.o; atom = (slice_index_or c.as_slice-outcomes.result.now i x).atom; targets = c.args.targets; node = c.args.node; passed = c.args.passed } in
     let made : ℕ → ℕ → WorkOutcome = λ n m. record { number = n; atom = m; targets = c.args.targets; node = c.args.node.0; passed = c.args.passed } in
-    let there = subst (λ (xs : List Alive). i < length xs) c.as_slice-outcomes.ensures (subst (λ (r : Option ℕ). IfSome r (λ k. k < length c.as_slice-outcomes.result.now)) c.unwrap-i.ensures c.place_of.ensures.there) in
-    let found = subst (λ (xs : List Alive). option_map plain_outcome (slice_get xs i) ≡ outcome_among (map plain_outcome xs) c.args.o.0) c.as_slice-outcomes.ensures
+    let there = subst (λ (xs : List Outcome). i < length xs) c.as_slice-outcomes.ensures (subst (λ (r : Option ℕ). IfSome r (λ k. k < length c.as_slice-outcomes.result.now)) c.unwrap-i.ensures c.place_of.ensures.there) in
+    let found = subst (λ (xs : List Outcome). option_map plain_outcome (slice_get xs i) ≡ outcome_among (map plain_outcome xs) c.args.o.0) c.as_slice-outcomes.ensures
     (subst (λ (r : Option ℕ). IfSome r (λ k. option_map plain_outcome (slice_get c.as_slice-outcomes.result.now k) ≡ outcome_among (map plain_outcome c.as_slice-outcomes.result.now) c.args.o.0)) c.unwrap-i.ensures c.place_of.ensures.found) in
     ap (map plain_outcome) c.set.ensures.items
     ∙ set-found plain_outcome items c.args.o.0 i x y (changed c.args.targets c.args.node.0 c.args.passed) c.self.invariant.alive.rising there
-    (subst (λ (xs : List Alive). x ≡ slice_index_or xs i x) c.as_slice-outcomes.ensures c.index-outcomes-i.is) found (λ e. ap₂ made (sym e) (ap (λ (z : Alive). z.atom.0) (sym c.index-outcomes-i.is)))
+    (subst (λ (xs : List Outcome). x ≡ slice_index_or xs i x) c.as_slice-outcomes.ensures c.index-outcomes-i.is) found (λ e. ap₂ made (sym e) (ap (λ (z : Outcome). z.atom.0) (sym c.index-outcomes-i.is)))
 
 pub invariant_of-self : goal.invariant_of-self
 invariant_of-self c =

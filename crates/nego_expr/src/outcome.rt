@@ -1,0 +1,58 @@
+//! Alive outcomes of a work.
+ghost use Rattle.std.specs.Prelude.{◌≡◌, option_map};
+ghost use Rattle.nego_expr.specs.Work.{sent_to};
+ghost use Rattle.nego_expr.specs.Use.{send_alike, sends_all};
+ghost use Rattle.nego_expr.specs.WorkView.{plain_outcome};
+
+use crate::Targets;
+use nego_base::{AgentId, AgentSet, AtomId, AtomSet, NodeId, OutcomeId};
+
+/// An alive outcome: its number, its atom, where it sends the agents, the node of its expression, and the atoms that
+/// it passed.
+#[derive(Debug, Drop)]
+pub struct Outcome {
+    pub number: OutcomeId,
+    pub atom: AtomId,
+    pub targets: Targets,
+    pub node: NodeId,
+    pub passed: AtomSet,
+}
+
+impl Outcome {
+    /// The same outcome once more.
+    pub fn copy(&self) -> Outcome
+        ensures { plain_outcome result ≡ plain_outcome self.now }
+    {
+        Outcome {
+            targets: self.targets.copy(),
+            ..*self
+        }
+    }
+
+    /// Where it sends the agent.
+    pub fn target(&self, a: AgentId) -> Option<AtomId>
+        ensures { option_map (λ n. n.0) result ≡ sent_to (plain_outcome self.now) a.0 }
+    {
+        self.targets.entry(a)
+    }
+
+    /// Whether it sends each of the agents to the atom.
+    pub fn sends_all(&self, agents: AgentSet, n: AtomId) -> bool
+        ensures { result ≡ sends_all agents n.0 (plain_outcome self.now) }
+    {
+        match agents.least() {
+            Some(a) => self.target(a) == Some(n) && self.sends_all(agents.without(a), n),
+            None => true,
+        }
+    }
+
+    /// Whether it and the other send each of the agents to the same atom.
+    pub fn sends_alike(&self, other: &Outcome, agents: AgentSet) -> bool
+        ensures { result ≡ send_alike agents (plain_outcome self.now) (plain_outcome other.now) }
+    {
+        match agents.least() {
+            Some(a) => self.target(a) == other.target(a) && self.sends_alike(other, agents.without(a)),
+            None => true,
+        }
+    }
+}
