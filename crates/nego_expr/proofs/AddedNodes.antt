@@ -9,7 +9,7 @@ use Rattle.nego_model.specs.Joining.{Relation, RelationTest, By}
 use Rattle.nego_model.specs.Expression.{PlainNode, Base, Join, Then, Star, children, IsNodeList, NodeMeans, Means, NodeBases, EachBase}
 use Rattle.nego_model.proofs.expressions.Nodes.{Means-append, Means-at, EachBase-older, EachBase-newest, split_at}
 use Rattle.nego_expr.specs.Work.{WorkOutcome, PlainWork, outcome_at, ByWork}
-use Rattle.nego_expr.specs.Use.{nodes_then}
+use Rattle.nego_expr.specs.Edits.{nodes_then}
 use Rattle.nego_expr.proofs.Alive.{ByWork-found}
 
 -- ---- lists of nodes

@@ -1,5 +1,5 @@
 -- Laws of the alive outcomes of a work: who is found by its number, and what is meant where it is found.
-use Rattle.std.proofs.Common.{◌≡◌, ◌↔◌, ℕ, ◌+◌, ◌≤◌, ◌==◌, List, [], ◌∷◌, map, Some, None, MatchOption, refl, sym, subst, ◌∙◌, arith, eq-eqb, ne_eqb}
+use Rattle.std.proofs.Common.{◌≡◌, ◌↔◌, ℕ, ◌+◌, ◌≤◌, ◌==◌, List, [], ◌∷◌, map, Some, None, option_map, MatchOption, refl, sym, subst, ◌∙◌, arith, eq-eqb, ne_eqb}
 use Rattle.std.proofs.lemmas.Bool.{cond-true, cond-false}
 use Rattle.std.proofs.lemmas.List.Elements.{All-nil, All-cons, All-weaker}
 use Rattle.std.specs.List.{All}
@@ -37,10 +37,10 @@ each_found outcomes h =
 -- an outcome that is found relates what its node means
 pub ByWork-found : (test : RelationTest) (work : PlainWork) (o : ℕ) (x : WorkOutcome) (d e : ℕ) → outcome_at work o ≡ Some x → ByWork test work o d e ↔ Means (By test) work.nodes x.node d e
 ByWork-found test work o x d e h = (
-  λ m. subst (λ found. MatchOption found ⊥ (λ outcome. Means (By test) work.nodes outcome.node d e)) h m,
-  λ m. subst (λ found. MatchOption found ⊥ (λ outcome. Means (By test) work.nodes outcome.node d e)) (sym h) m,
+  λ m. subst (λ found. MatchOption (option_map (λ outcome. outcome.node) found) ⊥ (λ node. Means (By test) work.nodes node d e)) h m,
+  λ m. subst (λ found. MatchOption (option_map (λ outcome. outcome.node) found) ⊥ (λ node. Means (By test) work.nodes node d e)) (sym h) m,
 )
 
 -- nothing is related by a number by which no outcome is found
 pub ByWork-none : (test : RelationTest) (work : PlainWork) (o d e : ℕ) → outcome_at work o ≡ None → ByWork test work o d e → ⊥
-ByWork-none test work o d e h m = subst (λ found. MatchOption found ⊥ (λ outcome. Means (By test) work.nodes outcome.node d e)) h m
+ByWork-none test work o d e h m = subst (λ found. MatchOption (option_map (λ outcome. outcome.node) found) ⊥ (λ node. Means (By test) work.nodes node d e)) h m

@@ -1,4 +1,5 @@
 -- Laws of a list of nodes of which each is the outcome of its number.
+use Rattle.std.specs.Prelude.{⊤}
 use Rattle.std.proofs.Common.{◌≡◌, ◌↔◌, ⊎_elim, ℕ, zero, suc, ◌<◌, List, [], ◌∷◌, ◌++◌, length, map, slice_get, Some, sym, subst, ap, ◌∙◌, arith, add-one}
 use Rattle.std.proofs.lemmas.Bool.{cases_eq}
 use Rattle.std.proofs.lemmas.Option.{slice_get_within, slice_get-get_or, get_or_from_slice_get}
@@ -6,7 +7,7 @@ use Rattle.std.proofs.lemmas.List.FromFn.{length-map-range_with_len, get_or-map-
 use Rattle.std.proofs.lemmas.List.Elements.{All-nil}
 use Rattle.std.specs.List.{All, range_with_len}
 use Rattle.nego_model.specs.Joining.{Relation}
-use Rattle.nego_model.specs.Expression.{PlainNode, Base, children, IsNodeList, Means, EachBase}
+use Rattle.nego_model.specs.Expression.{PlainNode, Base, children, IsNodeList, Means, NodeBases, EachBase, AllBases}
 use Rattle.nego_model.proofs.expressions.Nodes.{Means-at, EachBase-older, EachBase-newest}
 
 -- the outcomes below a count, each as a node
@@ -53,3 +54,9 @@ EachBase-base_nodes P (suc count) o h p =
 
     older : o < count → EachBase P (base_nodes count) o → EachBase P (base_nodes count ++ Base count ∷ []) o
     older l m = (EachBase-older P (base_nodes count) (Base count) o (subst (λ n. o < n) (sym (length-base_nodes count)) l)).1 m
+
+-- the outcomes among them are those below the count
+pub AllBases-base_nodes : (P : ℕ → Type 0) (count : ℕ) → ((o : ℕ) → o < count → P o) → AllBases P (base_nodes count)
+AllBases-base_nodes P count h i node l =
+    let below : i < count = subst (λ n. i < n) (length-base_nodes count) l in
+    subst (NodeBases P (λ j. ⊤)) (sym (get_or-map-range_with_len Base 0 count i i node below (omega arith))) (h i below)

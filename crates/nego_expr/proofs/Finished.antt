@@ -6,13 +6,12 @@ use Rattle.std.specs.List.{All}
 use Rattle.nego_base.specs.Members.{is_in}
 use Rattle.nego_data.specs.Data.{data_count}
 use Rattle.nego_model.specs.Joining.{By, Runs}
-use Rattle.nego_model.specs.Expression.{Means}
-use Rattle.nego_model.specs.Diagram.{PlainDiagram, negotiation_of, relation_of}
+use Rattle.nego_model.specs.Expression.{Means, AllBases}
+use Rattle.nego_model.specs.Diagram.{PlainDiagram, negotiation_of, relation_of, parties_of, IsDiagram}
 use Rattle.nego_model.specs.Summary.{final_outcomes}
 use Rattle.nego_base.proofs.Members.{All-members}
-use Rattle.nego_expr.specs.Work.{WorkOutcome, PlainWork, IsWork, negotiation_of_work, work_outcomes, outcome_at, ByWork}
-use Rattle.nego_expr.specs.Use.{outcomes_at}
-use Rattle.nego_expr.specs.Fresh.{Stands, StandsLocally}
+use Rattle.nego_expr.specs.Work.{WorkOutcome, PlainWork, IsWork, outcomes_at, negotiation_of_work, work_outcomes, outcome_at, ByWork}
+use Rattle.nego_expr.specs.StandsFor.{StandsFor}
 use Rattle.nego_expr.specs.Finish.{finals_of, summary_of_work, FinishedWorksTell}
 use Rattle.nego_expr.proofs.Alive.{each_found, ByWork-found}
 use Rattle.nego_expr.proofs.OneAtomLeft.{one_atom_works}
@@ -46,7 +45,10 @@ nobody = record { number = 0; atom = 0; targets = []; node = 0; passed = [] }
 pub names_as_many : (work : PlainWork) → IsWork work → length work.names ≡ length (outcomes_at work work.last)
 names_as_many work ok = ok.named ∙ length-map (outcomes_at work work.last) (λ outcome. outcome.number)
 
-module _ (diagram : PlainDiagram) (work : PlainWork) (ok : IsWork work) (one : length work.atoms ≡ 1) (stands : StandsLocally work diagram) where
+module _ (diagram : PlainDiagram) (work : PlainWork) (read : IsDiagram diagram) (one : length work.atoms ≡ 1) (stands : StandsFor work diagram) where
+  ok : IsWork work
+  ok = stands.is_work
+
   -- the outcome at a place is found, and its node is that of the final outcome there
   each_final : (k d e : ℕ) → k < length (outcomes_at work work.last) →
       Means (By (relation_of diagram)) work.nodes (slice_index (map (λ final. final.node) (summary_of_work work).finals) k) d e
@@ -84,24 +86,24 @@ module _ (diagram : PlainDiagram) (work : PlainWork) (ok : IsWork work) (one : l
       t = each_final k d e (subst (λ n. k < n) (ap length stands.finals ∙ length-map (outcomes_at work work.last) (λ outcome. outcome.number)) h)
 
       s : Runs (negotiation_of diagram) (By (relation_of diagram)) f d e ↔ Runs (negotiation_of_work work) (ByWork (relation_of diagram) work) f d e
-      s = stands.runs f d e below (final_in k h)
+      s = stands.runs diagram.sizes (relation_of diagram) f d e read.local below (final_in k h)
 
       r : Runs (negotiation_of_work work) (ByWork (relation_of diagram) work) f d e ↔ ByWork (relation_of diagram) work f d e
       r = (one_atom_works work ok one).1 (relation_of diagram) f d e (subst (λ fs. IsTrue (is_in f fs)) stands.finals (final_in k h))
 
--- what stands for a diagram does so for joint data
-pub Stands-locally : (work : PlainWork) (diagram : PlainDiagram) → Stands work diagram → StandsLocally work diagram
-Stands-locally work diagram stands = record { sound = stands.sound; finals = stands.finals; runs = λ f d e below h. stands.runs f d e h }
-
 -- the summary of a work of one atom that stands for a diagram tells the diagram
 pub finished_works : FinishedWorksTell
-finished_works diagram work ok one stands named = record {
+finished_works diagram work read one stands = record {
   formed = record {
     below = ok.nodes;
+    bases = subst (λ bases. AllBases (λ o. o < bases) work.nodes) (ap length stands.bases ∙ length-map diagram.outcomes (λ outcome. parties_of diagram outcome.atom)) ok.bases_read;
     there = All-finals_of (λ i. i < length work.nodes) work.names (outcomes_at work work.last)
         (All-filter (λ outcome. outcome.atom == work.last) (λ outcome. outcome.node < length work.nodes) work.outcomes ok.nodes_there);
   };
   sound = stands.sound.1 (one_atom_works work ok one).0;
-  named = names-finals_of work.names (outcomes_at work work.last) (names_as_many work ok) ∙ named;
-  each = λ k d e h below _. each diagram work ok one stands k d e below h;
+  named = names-finals_of work.names (outcomes_at work work.last) (names_as_many work ok) ∙ stands.names;
+  each = λ k d e h below _. each diagram work read one stands k d e below h;
 }
+  where
+    ok : IsWork work
+    ok = stands.is_work

@@ -8,8 +8,7 @@ use Rattle.nego_base.specs.Members.{is_in}
 use Rattle.nego_model.specs.Summary.{PlainFinal}
 use Rattle.nego_expr.specs.declared.summary.Final.{Final}
 use Rattle.nego_expr.specs.declared.outcome.Outcome.{Outcome}
-use Rattle.nego_expr.specs.Work.{PlainWork, IsWork}
-use Rattle.nego_expr.specs.Use.{outcomes_at}
+use Rattle.nego_expr.specs.Work.{PlainWork, IsWork, outcomes_at}
 use Rattle.nego_expr.specs.Finish.{finals_of}
 use Rattle.nego_expr.specs.SummaryText.{plain_final}
 use Rattle.nego_expr.specs.WorkView.{plain_outcome}

@@ -1,7 +1,7 @@
 -- The fresh work of a deterministic diagram is a work, and stands for the diagram.
-use Rattle.std.proofs.Common.{◌≡◌, ◌↔◌, ⊎_elim, ℕ, ◌+◌, ◌<◌, ◌≤◌, false, [], length, map, slice_get, slice_index_or, Option, Some, None, option_map, IsTrue, refl, sym, subst, ap, ◌∙◌, arith, lt-ltb}
+use Rattle.std.proofs.Common.{◌≡◌, ◌↔◌, ⊎_elim, ℕ, ◌+◌, ◌<◌, ◌≤◌, [], length, map, slice_get, slice_index_or, Option, Some, None, option_map, IsTrue, refl, sym, subst, ap, ◌∙◌, arith, lt-ltb}
 use Rattle.std.proofs.Math.Path.{fun_ext}
-use Rattle.std.proofs.lemmas.Bool.{cases_lt, true≢false}
+use Rattle.std.proofs.lemmas.Bool.{cases_lt}
 use Rattle.std.proofs.lemmas.Option.{slice_get_within, get_or_from_slice_get}
 use Rattle.std.proofs.lemmas.List.{length-map, get_or-map, get_or_past}
 use Rattle.std.proofs.lemmas.List.FromFn.{length-map-range_with_len, get_or-map-range_with_len}
@@ -9,23 +9,22 @@ use Rattle.std.specs.List.{All, range_with_len}
 use Rattle.std.specs.Option.{option_map_or, option_to_list}
 use Rattle.nego_base.specs.Members.{is_in, all_in, IsRising}
 use Rattle.nego_base.proofs.Members.{all_in-members}
-use Rattle.nego_model.specs.Negotiation.{Negotiation, IsNegotiation, IsOutcome, IsDeterministic}
+use Rattle.nego_model.specs.Negotiation.{IsNegotiation, IsOutcome, IsDeterministic}
 use Rattle.nego_model.specs.Occurring.{opening_marking, leaves, IsSound}
-use Rattle.nego_model.specs.Joining.{Relation, By, Runs}
+use Rattle.nego_model.specs.Joining.{Relation, RelationTest, By, Runs}
 use Rattle.nego_model.specs.Expression.{EachBase}
-use Rattle.nego_model.specs.Diagram.{PlainOutcome, PlainDiagram, negotiation_of, relation_of, parties_of, nexts_of, outcome_name, IsDiagram}
+use Rattle.nego_model.specs.Diagram.{PlainOutcome, PlainDiagram, negotiation_of, parties_of, nexts_of, outcome_name, IsDiagram}
 use Rattle.nego_model.specs.Summary.{final_outcomes}
 use Rattle.nego_base.proofs.Members.{is_in-range_zero}
-use Rattle.nego_model.proofs.occurrence.Joined.{Joins-wider}
+use Rattle.nego_model.proofs.diagrams.Negotiations.{outcomes_from-at}
+use Rattle.nego_model.proofs.simulation.Alike.{AreAlike}
+use Rattle.nego_model.proofs.simulation.Simulations.{Runs-alike_outcomes}
 use Rattle.nego_expr.specs.Work.{WorkOutcome, IsWork, outcome_at, sent_to, work_parties, work_outcomes, negotiation_of_work, ByWork}
-use Rattle.nego_expr.specs.Fresh.{atoms_from, outcomes_of, fresh_work, Stands, FreshWorksStand, HasTheRuns, FreshWorksHaveTheRuns}
-use Rattle.nego_expr.proofs.Alive.{ByWork-found, ByWork-none}
-use Rattle.nego_expr.proofs.BaseNodes.{base_nodes, length-base_nodes, base_nodes-formed, Means-base_nodes, EachBase-base_nodes}
+use Rattle.nego_expr.specs.Fresh.{atoms_from, outcomes_of, fresh_work}
+use Rattle.nego_expr.specs.StandsFor.{HasForm, StandsFor, FreshWorksStand, HasTheRuns, FreshWorksHaveTheRuns}
+use Rattle.nego_expr.proofs.Alive.{ByWork-found}
+use Rattle.nego_expr.proofs.BaseNodes.{base_nodes, length-base_nodes, base_nodes-formed, Means-base_nodes, EachBase-base_nodes, AllBases-base_nodes}
 use Rattle.nego_expr.proofs.FreshLists.{rises-range, one_at_most, numbers-atoms_from, parties-atoms_from, fresh_outcome, is_in_outcomes_from, numbers-outcomes_of, outcomes_of-at_atom, outcomes_of-found, All-outcomes_of}
-
--- complete runs that join by one relation join by a wider one
-pub Runs-wider : (nego : Negotiation) (relation wider : Relation) (f d e : ℕ) → ((o a b : ℕ) → relation o a b → wider o a b) → Runs nego relation f d e → Runs nego wider f d e
-Runs-wider nego relation wider f d e h r = record { run = r.run; complete = r.complete; ends = r.ends; joins = Joins-wider relation wider h r.run d e r.joins }
 
 -- the alive outcome of a number is the diagram's
 pub fresh_found : (diagram : PlainDiagram) (o : ℕ) → outcome_at (fresh_work diagram) o ≡ option_map (fresh_outcome diagram o) (slice_get diagram.outcomes o)
@@ -47,7 +46,7 @@ unfolding fresh_work
 fresh_outcomes diagram n = outcomes_of-at_atom diagram 0 diagram.outcomes n
 
 -- an outcome of a diagram is one of its atom
-pub diagram_outcome : (diagram : PlainDiagram) → IsDiagram diagram → (o : ℕ) (x : PlainOutcome) → slice_get diagram.outcomes o ≡ Some x → IsOutcome (negotiation_of diagram) x.atom o
+pub diagram_outcome : (diagram : PlainDiagram) → HasForm diagram → (o : ℕ) (x : PlainOutcome) → slice_get diagram.outcomes o ≡ Some x → IsOutcome (negotiation_of diagram) x.atom o
 diagram_outcome diagram ok o x h = (
   is_in-range_zero x.atom (length diagram.atoms) ∙ lt-ltb x.atom (length diagram.atoms) below,
   subst (λ p. IsTrue (is_in p ((negotiation_of diagram).outcomes x.atom))) (let e : 0 + o ≡ o = omega arith in e) (is_in_outcomes_from 0 diagram.outcomes o x h),
@@ -56,7 +55,7 @@ diagram_outcome diagram ok o x h = (
     below : x.atom < length diagram.atoms
     below = subst (λ y. y.atom < length diagram.atoms) (get_or_from_slice_get diagram.outcomes o x x h) (ok.own_atom o x (slice_get_within diagram.outcomes o x h))
 
-module _ (diagram : PlainDiagram) (ok : IsDiagram diagram) (one : IsDeterministic (negotiation_of diagram)) where
+module _ (diagram : PlainDiagram) (ok : HasForm diagram) (one : IsDeterministic (negotiation_of diagram)) where
   -- where an alive outcome sends an agent is the one next atom of the agent
   fresh_sent : (o a : ℕ) (x : PlainOutcome) → slice_get diagram.outcomes o ≡ Some x → option_to_list (sent_to (fresh_outcome diagram o x) a) ≡ nexts_of diagram o a
   fresh_sent o a x h = ⊎_elim within past (cases_lt a (length diagram.agents))
@@ -99,37 +98,17 @@ module _ (diagram : PlainDiagram) (ok : IsDiagram diagram) (one : IsDeterministi
   }
 
   -- an outcome of the fresh work relates what it relates in the diagram
-  pub fresh_relation : (o d e : ℕ) → ByWork (relation_of diagram) (fresh_work diagram) o d e ↔ By (relation_of diagram) o d e
+  fresh_relation : (test : RelationTest) (n o d e : ℕ) → IsOutcome (negotiation_of diagram) n o → ByWork test (fresh_work diagram) o d e ↔ By test o d e
   unfolding fresh_work
-  fresh_relation o d e = go (slice_get diagram.outcomes o) refl
-    where
-      go : (found : Option PlainOutcome) → slice_get diagram.outcomes o ≡ found → ByWork (relation_of diagram) (fresh_work diagram) o d e ↔ By (relation_of diagram) o d e
-      go None h = (
-        λ m. absurd (ByWork-none (relation_of diagram) (fresh_work diagram) o d e (fresh_found diagram o ∙ ap (option_map (fresh_outcome diagram o)) h) m),
-        λ m. absurd (true≢false (sym m ∙ ap (λ found. option_map_or (λ outcome. is_in e (slice_index_or outcome.table d [])) found false) h)),
-      )
-      go (Some x) h =
-          let k = ByWork-found (relation_of diagram) (fresh_work diagram) o (fresh_outcome diagram o x) d e (fresh_found diagram o ∙ ap (option_map (fresh_outcome diagram o)) h) in
-          let m = Means-base_nodes (By (relation_of diagram)) (length diagram.outcomes) o d e (slice_get_within diagram.outcomes o x h) in
-          (λ r. m.0 (k.0 r), λ r. k.1 (m.1 r))
+  fresh_relation test n o d e outcome =
+      let found = outcomes_from-at 0 diagram.outcomes n o (subst (λ p. IsTrue (is_in p ((negotiation_of diagram).outcomes n))) (let e : o ≡ 0 + o = omega arith in e) outcome.1) in
+      let k = ByWork-found test (fresh_work diagram) o (fresh_outcome diagram o found.outcome) d e (fresh_found diagram o ∙ ap (option_map (fresh_outcome diagram o)) found.at) in
+      let m = Means-base_nodes (By test) (length diagram.outcomes) o d e (slice_get_within diagram.outcomes o found.outcome found.at) in
+      (λ r. m.0 (k.0 r), λ r. k.1 (m.1 r))
 
   -- the fresh work has the diagram's runs
   pub fresh_has_runs : HasTheRuns (fresh_work diagram) diagram
   fresh_has_runs steps = ap (λ nego. leaves nego (opening_marking nego) steps) fresh_negotiation
-
-  -- the fresh work stands for the diagram
-  pub fresh_stands : Stands (fresh_work diagram) diagram
-  unfolding fresh_work
-  fresh_stands = record {
-    sound = (λ h. subst IsSound fresh_negotiation h, λ h. subst IsSound (sym fresh_negotiation) h);
-    finals = sym (fresh_outcomes diagram diagram.last);
-    runs = λ f d e _. (
-      λ r. Runs-wider (negotiation_of_work (fresh_work diagram)) (By (relation_of diagram)) (ByWork (relation_of diagram) (fresh_work diagram)) f d e (λ o a b h. (fresh_relation o a b).1 h)
-          (subst (λ nego. Runs nego (By (relation_of diagram)) f d e) fresh_negotiation r),
-      λ r. subst (λ nego. Runs nego (By (relation_of diagram)) f d e) (sym fresh_negotiation)
-          (Runs-wider (negotiation_of_work (fresh_work diagram)) (ByWork (relation_of diagram) (fresh_work diagram)) (By (relation_of diagram)) f d e (λ o a b h. (fresh_relation o a b).0 h) r),
-    );
-  }
 
   -- the fresh work is a work
   pub fresh_is_work : IsWork (fresh_work diagram)
@@ -145,9 +124,8 @@ module _ (diagram : PlainDiagram) (ok : IsDiagram diagram) (one : IsDeterministi
     nodes_there = each (λ y. y.node < length (base_nodes (length diagram.outcomes)))
         (λ k x h. subst (λ n. k < n) (sym (length-base_nodes (length diagram.outcomes))) (slice_get_within diagram.outcomes k x h));
     named = length-map (final_outcomes diagram) (outcome_name diagram) ∙ ap length (sym (fresh_outcomes diagram diagram.last));
-    bases_there = each (λ y. EachBase (λ o. o < length (map (λ outcome. parties_of diagram outcome.atom) diagram.outcomes)) (base_nodes (length diagram.outcomes)) y.node)
-        (λ k x h. EachBase-base_nodes (λ o. o < length (map (λ outcome. parties_of diagram outcome.atom) diagram.outcomes)) (length diagram.outcomes) k (slice_get_within diagram.outcomes k x h)
-        (subst (λ n. k < n) (sym (length-map diagram.outcomes (λ outcome. parties_of diagram outcome.atom))) (slice_get_within diagram.outcomes k x h)));
+    bases_read = AllBases-base_nodes (λ o. o < length (map (λ outcome. parties_of diagram outcome.atom) diagram.outcomes)) (length diagram.outcomes)
+        (λ o l. subst (λ n. o < n) (sym (length-map diagram.outcomes (λ outcome. parties_of diagram outcome.atom))) l);
     bases_within = each (λ y. EachBase (λ o. IsTrue (all_in (slice_index_or (map (λ outcome. parties_of diagram outcome.atom) diagram.outcomes) o []) (work_parties (fresh_work diagram) y.atom))) (base_nodes (length diagram.outcomes)) y.node)
         (λ k x h. EachBase-base_nodes (λ o. IsTrue (all_in (slice_index_or (map (λ outcome. parties_of diagram outcome.atom) diagram.outcomes) o []) (work_parties (fresh_work diagram) x.atom))) (length diagram.outcomes) k (slice_get_within diagram.outcomes k x h)
         (within k x h));
@@ -167,10 +145,40 @@ module _ (diagram : PlainDiagram) (ok : IsDiagram diagram) (one : IsDeterministi
           subst (λ ps. IsTrue (all_in ps (work_parties (fresh_work diagram) x.atom))) (fresh_parties diagram x.atom ∙ sym (base_parties k x h))
           (all_in-members (work_parties (fresh_work diagram) x.atom) (work_parties (fresh_work diagram) x.atom) (λ _ m. m))
 
--- the fresh work of a deterministic diagram is a work, and stands for the diagram
-pub fresh_works : FreshWorksStand
-fresh_works diagram ok one = (fresh_is_work diagram ok one, fresh_stands diagram ok one)
+  -- complete runs relate the same where each outcome of an atom does
+  runs_alike : (relation relation' : Relation) → ((n o d e : ℕ) → IsOutcome (negotiation_of diagram) n o → relation o d e → relation' o d e) → (f d e : ℕ) → IsTrue (is_in f (final_outcomes diagram)) →
+      Runs (negotiation_of diagram) relation f d e → Runs (negotiation_of diagram) relation' f d e
+  runs_alike relation relation' = Runs-alike_outcomes (negotiation_of diagram) relation (negotiation_of diagram) relation' itself ok.form one ok.form
+    where
+      itself : AreAlike (negotiation_of diagram) (negotiation_of diagram)
+      itself = record { agents = refl; first = refl; last = refl; atoms = λ n. refl; parties = λ n h. refl; outcomes = λ n o h. refl; next = λ n o a h k. refl }
 
--- the fresh work of a deterministic diagram has the diagram's runs
+  -- the fresh work stands for the diagram
+  pub fresh_stands : StandsFor (fresh_work diagram) diagram
+  unfolding fresh_work
+  fresh_stands = record {
+    read = ok;
+    is_work = fresh_is_work;
+    bases = refl;
+    names = refl;
+    sound = (λ h. subst IsSound fresh_negotiation h, λ h. subst IsSound (sym fresh_negotiation) h);
+    finals = sym (fresh_outcomes diagram diagram.last);
+    runs = λ sizes test f d e local below final. (
+      λ r. subst (λ nego. Runs nego (ByWork test (fresh_work diagram)) f d e) fresh_negotiation
+          (runs_alike (By test) (ByWork test (fresh_work diagram)) (λ n o a b outcome h. (fresh_relation test n o a b outcome).1 h) f d e final r),
+      λ r. runs_alike (ByWork test (fresh_work diagram)) (By test) (λ n o a b outcome h. (fresh_relation test n o a b outcome).0 h) f d e final
+          (subst (λ nego. Runs nego (ByWork test (fresh_work diagram)) f d e) (sym fresh_negotiation) r),
+    );
+  }
+
+-- the fresh work of a diagram that has form and is deterministic stands for it
+pub fresh_works : FreshWorksStand
+fresh_works diagram ok one = fresh_stands diagram ok one
+
+-- it has the diagram's runs
 pub fresh_works_runs : FreshWorksHaveTheRuns
 fresh_works_runs diagram ok one = fresh_has_runs diagram ok one
+
+-- a diagram has form
+pub has_form : (diagram : PlainDiagram) → IsDiagram diagram → HasForm diagram
+has_form diagram ok = record { form = ok.form; own_atom = ok.own_atom }

@@ -7,10 +7,11 @@ use Rattle.nego_data.specs.Locality.{ActsOn}
 use Rattle.nego_data.proofs.Acting.{ActsOn-more, ActsOn-same}
 use Rattle.nego_model.specs.Joining.{RelationTest, By}
 use Rattle.nego_model.specs.Expression.{PlainNode, Base, Join, Then, Star, Means, NodeBases, BasesAmong, EachBase}
+use Rattle.nego_model.proofs.expressions.Bases.{EachBase-from_all}
 use Rattle.nego_model.proofs.expressions.Nodes.{EachBase-weaker}
 use Rattle.nego_model.proofs.expressions.Acting.{Means-acts}
 use Rattle.nego_expr.specs.Work.{WorkOutcome, PlainWork, outcome_at, work_parties, ByWork}
-use Rattle.nego_expr.specs.Local.{WorksAreLocal}
+use Rattle.nego_expr.specs.Keeps.{WorksAreLocal}
 use Rattle.nego_expr.proofs.Alive.{ByWork-found}
 use Rattle.nego_expr.proofs.WorkForm.{outcome_found}
 
@@ -63,7 +64,7 @@ works_local work sizes test ok acts n o outcome =
     Within x = EachBase (λ p. IsTrue (all_in (slice_index_or work.bases p []) (work_parties work x.atom))) work.nodes x.node
 
     each : All (λ x. There x × Within x) work.outcomes
-    each k d l = (ok.bases_there k d l, ok.bases_within k d l)
+    each k d l = (EachBase-from_all (λ p. p < length work.bases) work.nodes (slice_index_or work.outcomes k d).node ok.bases_read, ok.bases_within k d l)
 
     found : (x : WorkOutcome) × (outcome_at work o ≡ Some x) × (x.atom ≡ n) × (There x × Within x)
     found = outcome_found work ok.numbers_rise (λ x. There x × Within x) n o each outcome.1

@@ -12,6 +12,7 @@ use Rattle.std.proofs.lemmas.List.Elements.{All-nil, All-cons, All-head, All-tai
 use Rattle.std.proofs.lemmas.List.{map-set, length-map}
 use Rattle.nego_base.specs.Members.{RisesFrom, IsRising}
 use Rattle.nego_expr.specs.Work.{WorkOutcome, outcome_among}
+use Rattle.nego_expr.specs.Edits.{with_outcome}
 use Rattle.nego_expr.proofs.Alive.{outcome_among_later, each_found}
 use Rattle.nego_expr.proofs.WorkEdits.{numbers_of, All-at_place, found-number}
 
@@ -149,16 +150,14 @@ module _ {X : Type 0} (see : X → WorkOutcome) where
   remove-seen (x ∷ xs) zero = refl
   remove-seen (x ∷ xs) (suc i) = ap (◌∷◌ (see x)) (remove-seen xs i)
 
-  -- an item put at the place of the outcome of a number is seen as a change of this outcome
-  pub set-found : (xs : List X) (o i : ℕ) (x y : X) (change : WorkOutcome → WorkOutcome) → IsRising (numbers_of (map see xs)) → i < length xs → x ≡ get_or xs i x →
-      option_map see (slice_get xs i) ≡ outcome_among (map see xs) o → ((see x).number ≡ o → see y ≡ change (see x)) →
-      map see (set xs i y) ≡ map (λ z. cond (z.number == o) (change z) z) (map see xs)
-  set-found xs o i x y change rise l is found new =
+  -- an item of its number put at the place of an outcome is seen as this outcome being another now
+  pub set-found : (xs : List X) (o i : ℕ) (x y : X) → IsRising (numbers_of (map see xs)) → i < length xs → x ≡ get_or xs i x →
+      option_map see (slice_get xs i) ≡ outcome_among (map see xs) o → (see y).number ≡ o → map see (set xs i y) ≡ with_outcome (see y) (map see xs)
+  set-found xs o i x y rise l is found same =
       let item : slice_get xs i ≡ Some x = slice_get_read xs (length xs) i x refl l is in
       let has : (see x).number ≡ o = found-number (map see xs) o (see x) (sym found ∙ ap (option_map see) item) in
-      map-set see xs i y ∙ (ap (set (map see xs) i) (new has)
-      ∙ (set-place change 0 (map see xs) i (see x) rise (slice_get-map see xs i ∙ ap (option_map see) item)
-      ∙ ap (λ n. map (λ z. cond (z.number == n) (change z) z) (map see xs)) has))
+      map-set see xs i y ∙ (set-place (λ z. see y) 0 (map see xs) i (see x) rise (slice_get-map see xs i ∙ ap (option_map see) item)
+      ∙ ap (λ n. map (λ z. cond (z.number == n) (see y) z) (map see xs)) (has ∙ sym same))
 
   -- without the item of a number the outcomes are without the one of this number
   pub remove-found : (xs : List X) (o i : ℕ) (x : X) → IsRising (numbers_of (map see xs)) → slice_get xs i ≡ Some x → option_map see (slice_get xs i) ≡ outcome_among (map see xs) o →

@@ -1,16 +1,21 @@
 -- Works in memory: the atoms that are left with their parties, and alive outcomes after an edit.
-use Rattle.std.proofs.Common.{◌≡◌, ⊎_elim, ℕ, ◌+◌, ◌<◌, ◌≤◌, ◌==◌, not, cond, Bool, true, false, Option, List, [], ◌∷◌, ◌++◌, length, map, slice_index_or, IsTrue, refl, sym, subst, ap, ◌∙◌, arith, eq-eqb, ne_eqb}
+use Rattle.std.proofs.Common.{◌≡◌, ◌≢◌, ⊎_elim, ℕ, ◌+◌, ◌<◌, ◌≤◌, ◌==◌, not, cond, Bool, true, false, Option, List, [], ◌∷◌, ◌++◌, length, map, slice_index_or, IsTrue, refl, sym, subst, ap, ◌∙◌, arith, eq-eqb, ne_eqb}
 use Rattle.std.specs.List.{All, filter}
 use Rattle.std.proofs.lemmas.Bool.{cond-true, cond-false, cases_eq}
 use Rattle.std.proofs.lemmas.List.Elements.{All-nil, All-cons, All-head, All-tail, All-filter, All-append, All-weaker}
-use Rattle.std.proofs.lemmas.List.{map-append}
+use Rattle.std.proofs.lemmas.List.{map-append, length-append}
+use Rattle.std.proofs.lemmas.Option.{slice_get_within}
+use Rattle.nego_model.specs.Expression.{PlainNode}
 use Rattle.nego_base.specs.Members.{is_in, without_member, RisesFrom, IsRising}
 use Rattle.nego_base.proofs.Members.{is_in_none, is_in-cases, rises-append}
 use Rattle.nego_expr.specs.Work.{WorkOutcome, parties_among}
-use Rattle.nego_expr.specs.Plain.{RoomyWork, changed}
+use Rattle.nego_expr.specs.Edits.{with_outcome, nodes_then, with_nodes_at}
+use Rattle.nego_expr.specs.Room.{RoomyWork}
 use Rattle.nego_expr.specs.WorkView.{atom_among, roomy_work, AreAlive}
 use Rattle.nego_expr.specs.declared.work.Work.TheInside.{Inside}
-use Rattle.nego_expr.proofs.WorkEdits.{numbers_of, numbers-changed, rises-passing}
+use Rattle.nego_expr.proofs.WorkEdits.{numbers_of, with_node, All-at_place, rises-passing, numbers-with_outcome, All-with_outcome}
+use Rattle.nego_expr.proofs.AddedNodes.{length-nodes_then}
+use Rattle.nego_expr.proofs.NodesAt.{of_atom, numbers-with_nodes_at, All-with_nodes_at}
 
 module _ (parties : List (List ℕ)) where
   -- the atoms have the numbers of those that are left
@@ -44,11 +49,6 @@ left_there w work n e h =
     let At : RoomyWork → Type 0 = λ v. IsTrue (is_in n (map (λ atom. atom.number) v.plain.atoms)) in
     subst (λ xs. IsTrue (is_in n xs)) (numbers-atoms w.parties w.left) (subst At (sym e) h)
 
--- what holds of each changed outcome
-All-changed : (P : WorkOutcome → Type 0) (change : WorkOutcome → WorkOutcome) → ((x : WorkOutcome) → P x → P (change x)) → (xs : List WorkOutcome) → All P xs → All P (map change xs)
-All-changed P change k [] h = All-nil P
-All-changed P change k (x ∷ xs) h = All-cons P (change x) (map change xs) (k x (All-head P x xs h)) (All-changed P change k xs (All-tail P x xs h))
-
 -- what holds of each outcome's number
 All-numbers : (P : ℕ → Type 0) (xs : List WorkOutcome) → All (λ x. P x.number) xs → All P (numbers_of xs)
 All-numbers P [] h = All-nil P
@@ -77,32 +77,14 @@ module _ (agents numbers nodes : ℕ) (outcomes : List WorkOutcome) (ok : AreAli
     there = All-filter test (λ x. x.node < nodes) outcomes ok.there;
   }
 
-  -- they are where one has other targets, another node and other passed atoms
-  pub alive-set : (o : ℕ) (targets : List (Option ℕ)) (node : ℕ) (passed : List ℕ) → length targets ≡ agents → node < nodes →
-      AreAlive agents numbers nodes (map (λ x. cond (x.number == o) (changed targets node passed x) x) outcomes)
-  alive-set o targets node passed fit there = record {
-    rising = subst IsRising (sym (numbers-changed change same outcomes)) ok.rising;
-    used = All-changed (λ x. x.number < numbers) change (λ x h. subst (λ n. n < numbers) (sym (same x)) h) outcomes ok.used;
-    fit = All-changed (λ x. length x.targets ≡ agents) change (λ x h. either (λ y. length y.targets ≡ agents) x fit h) outcomes ok.fit;
-    there = All-changed (λ x. x.node < nodes) change (λ x h. either (λ y. y.node < nodes) x there h) outcomes ok.there;
+  -- they are where one is another of its number
+  pub alive-set : (new : WorkOutcome) → new.number < numbers → length new.targets ≡ agents → new.node < nodes → AreAlive agents numbers nodes (with_outcome new outcomes)
+  alive-set new used fit there = record {
+    rising = subst IsRising (sym (numbers-with_outcome new outcomes)) ok.rising;
+    used = All-with_outcome (λ x. x.number < numbers) new outcomes used ok.used;
+    fit = All-with_outcome (λ x. length x.targets ≡ agents) new outcomes fit ok.fit;
+    there = All-with_outcome (λ x. x.node < nodes) new outcomes there ok.there;
   }
-    where
-      change : WorkOutcome → WorkOutcome
-      change x = cond (x.number == o) (changed targets node passed x) x
-
-      same : (x : WorkOutcome) → (change x).number ≡ x.number
-      same x = go (x.number == o)
-        where
-          go : (b : Bool) → (cond b (changed targets node passed x) x).number ≡ x.number
-          go true = refl
-          go false = refl
-
-      either : (P : WorkOutcome → Type 0) (x : WorkOutcome) → P (changed targets node passed x) → P x → P (change x)
-      either P x h k = go (x.number == o)
-        where
-          go : (b : Bool) → P (cond b (changed targets node passed x) x)
-          go true = h
-          go false = k
 
   -- they are with one of the least number that was never used
   pub alive-add : (n : ℕ) (targets : List (Option ℕ)) (node : ℕ) (passed : List ℕ) → length targets ≡ agents → node < nodes →
@@ -120,3 +102,23 @@ module _ (agents numbers nodes : ℕ) (outcomes : List WorkOutcome) (ok : AreAli
 
       single : (P : WorkOutcome → Type 0) → P new → All P (new ∷ [])
       single P h = All-cons P new [] h (All-nil P)
+
+-- outcomes are alive ones where those of an atom have new nodes
+pub alive-then_each : (agents numbers x n : ℕ) (nodes : List PlainNode) (outcomes : List WorkOutcome) → AreAlive agents numbers (length nodes) outcomes →
+    AreAlive agents numbers (length (nodes ++ nodes_then x (of_atom n outcomes))) (with_nodes_at n (length nodes) outcomes)
+alive-then_each agents numbers x n nodes outcomes ok = record {
+  rising = subst IsRising (sym (numbers-with_nodes_at n (length nodes) outcomes)) ok.rising;
+  used = each (λ y. y.number < numbers) (λ i y h. h) ok.used;
+  fit = each (λ y. length y.targets ≡ agents) (λ i y h. h) ok.fit;
+  there = All-with_nodes_at (λ y. y.node < length (nodes ++ nodes_then x (of_atom n outcomes))) n (length nodes) outcomes
+      (All-weaker (λ y. y.node < length nodes) (λ y. y.atom ≢ n → y.node < length (nodes ++ nodes_then x (of_atom n outcomes))) (λ y h other. let l : y.node < length nodes = h in omega (arith, l, as_many)) outcomes ok.there)
+      (λ k y e. omega (arith, as_many, slice_get_within (of_atom n outcomes) k y e));
+}
+  where
+    as_many : length (nodes ++ nodes_then x (of_atom n outcomes)) ≡ length nodes + length (of_atom n outcomes)
+    as_many = length-append nodes (nodes_then x (of_atom n outcomes)) ∙ ap (λ l. length nodes + l) (length-nodes_then x (of_atom n outcomes))
+
+    -- what reads no node
+    each : (P : WorkOutcome → Type 0) → ((i : ℕ) (y : WorkOutcome) → P y → P (with_node i y)) → All P outcomes → All P (with_nodes_at n (length nodes) outcomes)
+    each P r h = All-with_nodes_at P n (length nodes) outcomes (All-weaker P (λ y. y.atom ≢ n → P y) (λ y p other. p) outcomes h)
+        (λ k y e. r (length nodes + k) y (All-at_place P (of_atom n outcomes) k y (All-filter (λ z. z.atom == n) P outcomes h) e))

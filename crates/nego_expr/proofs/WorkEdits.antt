@@ -1,5 +1,5 @@
 -- Laws of the alive outcomes of a work: what is found among them by its number, before and after an edit.
-use Rattle.std.proofs.Common.{◌≡◌, ◌≢◌, ◌⊎◌, inl, inr, ⊎_elim, ℕ, suc, ◌+◌, ◌≤◌, Bool, true, false, not, ◌==◌, cond, List, [], ◌∷◌, ◌++◌, length, map, option_map, slice_get, Option, Some, None, IsTrue, refl, sym, subst, ap, ap₂, ◌∙◌, arith, eq-eqb, ne_eqb, eqb-true, add-zero}
+use Rattle.std.proofs.Common.{◌≡◌, ◌≢◌, ◌⊎◌, inl, inr, ⊎_elim, ℕ, ◌+◌, ◌≤◌, Bool, true, false, not, ◌==◌, cond, List, [], ◌∷◌, ◌++◌, map, option_map, slice_get, Option, Some, None, IsTrue, refl, sym, subst, ap, ap₂, ◌∙◌, arith, eq-eqb, ne_eqb, eqb-true}
 use Rattle.std.proofs.lemmas.Bool.{cond-true, cond-false, cases_eq, true≢false}
 use Rattle.std.proofs.lemmas.Option.{none-some, same_Some, slice_get_within, get_or_from_slice_get}
 use Rattle.std.proofs.lemmas.List.Elements.{All-nil, All-cons, All-head, All-tail, All-filter, All-get_or}
@@ -7,7 +7,7 @@ use Rattle.std.specs.List.{All, filter}
 use Rattle.nego_base.specs.Members.{is_in, without_member, RisesFrom, IsRising}
 use Rattle.nego_base.proofs.Members.{is_in-head, is_in-tail, is_in-cases, is_in_none, rises_more}
 use Rattle.nego_expr.specs.Work.{WorkAtom, WorkOutcome, parties_among, outcome_among}
-use Rattle.nego_expr.specs.Use.{with_outcome, without_outcome, with_nodes_from}
+use Rattle.nego_expr.specs.Edits.{with_outcome, without_outcome}
 use Rattle.nego_expr.proofs.Alive.{outcome_among_first, outcome_among_later, each_found}
 
 -- the outcomes' numbers
@@ -16,7 +16,7 @@ numbers_of outcomes = map (λ outcome. outcome.number) outcomes
 
 -- an outcome with another node
 abbrev pub with_node : ℕ → WorkOutcome → WorkOutcome
-with_node i x = record { number = x.number; atom = x.atom; targets = x.targets; node = i; passed = x.passed }
+with_node i x = record x { node = i }
 
 -- what holds of each outcome holds of the one at a place
 pub All-at_place : (P : WorkOutcome → Type 0) (outcomes : List WorkOutcome) (k : ℕ) (x : WorkOutcome) → All P outcomes → slice_get outcomes k ≡ Some x → P x
@@ -284,55 +284,6 @@ found-without_other o (y ∷ ys) p h = go (y.number == o) refl (found-without_ot
 -- what holds of each holds of each that is left
 pub All-without_outcome : (P : WorkOutcome → Type 0) (o : ℕ) (outcomes : List WorkOutcome) → All P outcomes → All P (without_outcome o outcomes)
 All-without_outcome P o outcomes h = All-filter (λ x. not (x.number == o)) P outcomes h
-
--- ---- each outcome has a new node
-
--- as many outcomes are there
-pub length-with_nodes_from : (i : ℕ) (outcomes : List WorkOutcome) → length (with_nodes_from i outcomes) ≡ length outcomes
-length-with_nodes_from i [] = refl
-length-with_nodes_from i (y ∷ ys) = ap suc (length-with_nodes_from (i + 1) ys)
-
--- the numbers stay
-pub numbers-with_nodes_from : (i : ℕ) (outcomes : List WorkOutcome) → numbers_of (with_nodes_from i outcomes) ≡ numbers_of outcomes
-numbers-with_nodes_from i [] = refl
-numbers-with_nodes_from i (y ∷ ys) = ap (◌∷◌ y.number) (numbers-with_nodes_from (i + 1) ys)
-
--- the numbers of those that pass a test stay, where the test reads no node
-pub passing-with_nodes_from : (test : WorkOutcome → Bool) → ((i : ℕ) (x : WorkOutcome) → test (with_node i x) ≡ test x) → (i : ℕ) (outcomes : List WorkOutcome) →
-    numbers_of (filter test (with_nodes_from i outcomes)) ≡ numbers_of (filter test outcomes)
-passing-with_nodes_from test h i [] = refl
-passing-with_nodes_from test h i (y ∷ ys) =
-    ap (λ b. numbers_of (cond b (with_node i y ∷ filter test (with_nodes_from (i + 1) ys)) (filter test (with_nodes_from (i + 1) ys)))) (h i y)
-    ∙ go (test y) (passing-with_nodes_from test h (i + 1) ys)
-  where
-    go : (b : Bool) → numbers_of (filter test (with_nodes_from (i + 1) ys)) ≡ numbers_of (filter test ys) →
-        numbers_of (cond b (with_node i y ∷ filter test (with_nodes_from (i + 1) ys)) (filter test (with_nodes_from (i + 1) ys))) ≡ numbers_of (cond b (y ∷ filter test ys) (filter test ys))
-    go true k = ap (◌∷◌ y.number) k
-    go false k = k
-
--- what holds of each outcome, whatever its new node from i on, holds of each with its new node
-pub All-with_nodes_from : (P : WorkOutcome → Type 0) (i : ℕ) (outcomes : List WorkOutcome) → ((k : ℕ) (x : WorkOutcome) → slice_get outcomes k ≡ Some x → P (with_node (i + k) x)) → All P (with_nodes_from i outcomes)
-All-with_nodes_from P i [] h = All-nil P
-All-with_nodes_from P i (y ∷ ys) h =
-    All-cons P (with_node i y) (with_nodes_from (i + 1) ys) (subst (λ j. P (with_node j y)) (add-zero i) (h 0 y refl))
-    (All-with_nodes_from P (i + 1) ys (λ k x e. let q : i + suc k ≡ i + 1 + k = omega arith in subst (λ j. P (with_node j x)) q (h (suc k) x e)))
-
--- what was found is found at its place, with the node of this place
-pub found-with_nodes_from : (i : ℕ) (outcomes : List WorkOutcome) (o : ℕ) (x : WorkOutcome) → outcome_among outcomes o ≡ Some x →
-    (k : ℕ) × (slice_get outcomes k ≡ Some x) × (outcome_among (with_nodes_from i outcomes) o ≡ Some (with_node (i + k) x))
-found-with_nodes_from i [] o x h = absurd (none-some x h)
-found-with_nodes_from i (y ∷ ys) o x h = ⊎_elim
-    (λ k. (
-      0,
-      ap (λ z. Some z) k.1,
-      cond-true (y.number == o) (Some (with_node i y)) (outcome_among (with_nodes_from (i + 1) ys) o) (eq-eqb y.number o k.0)
-          ∙ (ap (λ j. Some (with_node j y)) (sym (add-zero i)) ∙ ap (λ z. Some (with_node (i + 0) z)) k.1),
-    ))
-    (λ k.
-    let q = found-with_nodes_from (i + 1) ys o x k.1 in
-    let e : i + 1 + q.0 ≡ i + suc q.0 = omega arith in
-    (suc q.0, q.1, outcome_among_later (with_node i y) (with_nodes_from (i + 1) ys) o k.0 ∙ (q.2 ∙ ap (λ j. Some (with_node j x)) e)))
-    (found_cases y ys o x h)
 
 -- ---- atoms that are left
 

@@ -1,5 +1,5 @@
 -- Uses that lead from one work to another.
-use Rattle.std.specs.Prelude.{◌≡◌, ℕ, ◌≤◌, List, [], ◌∷◌, length, IsTrue}
+use Rattle.std.specs.Prelude.{◌≡◌, ◌≤◌, List, [], ◌∷◌, length, IsTrue}
 use Rattle.nego_model.specs.Diagram.{PlainDiagram}
 use Rattle.nego_expr.specs.Work.{PlainWork}
 use Rattle.nego_expr.specs.Use.{PlainUse, allows, after_use, most_nodes}

@@ -11,7 +11,7 @@ use Rattle.nego_model.specs.Limits.{IsWithinLimits}
 use Rattle.nego_model.specs.Summary.{final_outcomes}
 use Rattle.nego_expr.specs.Work.{PlainWork, IsWork, negotiation_of_work, work_outcomes, ByWork}
 use Rattle.nego_expr.specs.Fresh.{fresh_work}
-use Rattle.nego_expr.specs.Keeps.{UsesKeep, Keeps}
+use Rattle.nego_expr.specs.Keeps.{Keeps}
 
 -- A diagram's form: it is a negotiation, and each outcome is of an atom.
 pub record HasForm (diagram : PlainDiagram) : Type 0 where

@@ -1,11 +1,11 @@
 -- A work: a diagram under rewriting, as plain data. Some atoms and outcomes of the diagram that was read are gone,
 -- and the outcomes that are left have expressions over those that were read.
-use Rattle.std.specs.Prelude.{◌≡◌, ℕ, ◌<◌, ◌==◌, if◌then◌else◌, List, [], ◌∷◌, length, map, filter, slice_index_or, Option, Some, None, All, IsTrue, MatchOption}
+use Rattle.std.specs.Prelude.{◌≡◌, ℕ, ◌<◌, ◌==◌, if◌then◌else◌, List, [], ◌∷◌, length, map, filter, slice_index_or, Option, Some, None, option_map, All, IsTrue}
 use Rattle.std.specs.Option.{option_map_or, option_to_list}
 use Rattle.nego_base.specs.Members.{is_in, all_in, IsRising}
 use Rattle.nego_model.specs.Negotiation.{Negotiation, IsNegotiation}
-use Rattle.nego_model.specs.Joining.{Relation, RelationTest, By}
-use Rattle.nego_model.specs.Expression.{PlainNode, IsNodeList, Means, EachBase}
+use Rattle.nego_model.specs.Joining.{Relation, RelationTest}
+use Rattle.nego_model.specs.Expression.{PlainNode, IsNodeList, ByNodes, Relates, EachBase, AllBases}
 
 -- an atom that is left: its number and its parties
 pub record WorkAtom : Type 0 where
@@ -79,7 +79,7 @@ negotiation_of_work work = record {
 
 -- what an alive outcome relates, over a test for the outcomes of the diagram that was read
 abbrev pub ByWork : RelationTest → PlainWork → Relation
-ByWork test work o d e = MatchOption (outcome_at work o) ⊥ (λ outcome. Means (By test) work.nodes outcome.node d e)
+ByWork test work = Relates (ByNodes test work.nodes (λ o. option_map (λ outcome. outcome.node) (outcome_at work o)))
 
 -- The conditions of a work: it is a negotiation; its nodes are a list of nodes, each base among them is an outcome that
 -- was read, and each alive outcome has one of them; numbers never used are above those that are alive; the last atom's

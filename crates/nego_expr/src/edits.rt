@@ -1,7 +1,7 @@
 //! The edits of a work. None takes memory, and each is safe after any other: the rules make their effects of them.
-ghost use Rattle.std.specs.Prelude.{◌≡◌, ◌==◌, ◌+◌, ◌-◌, ◌<◌, ◌≤◌, ◌++◌, ◌∷◌, [], All, filter, IsTrue, IsSome, Some, length, map, option_map};
+ghost use Rattle.std.specs.Prelude.{◌≡◌, ◌==◌, ◌+◌, ◌-◌, ◌<◌, ◌≤◌, ◌++◌, ◌∷◌, [], All, filter, IsTrue, IsSome, Some, length, map, option_map, slice_get, slice_set};
 ghost use Rattle.nego_base.specs.Members.{is_in};
-ghost use Rattle.nego_model.specs.Expression.{children};
+ghost use Rattle.nego_model.specs.Expression.{Then, children};
 ghost use Rattle.nego_expr.specs.Work.{outcome_at, outcomes_at};
 ghost use Rattle.nego_expr.specs.Edits.{nodes_then, then_each, with_nodes_at, with_outcome, without_atom, without_outcome};
 ghost use Rattle.nego_expr.specs.NodeView.{plain_node};
@@ -124,22 +124,45 @@ impl Work {
 
 /// Each outcome of the atom has a new node, which is the node x and then its own.
 fn then_each(nodes: &mut Nodes, outcomes: &mut Reserved<Outcome>, x: NodeId, n: AtomId)
-    requires spare { length (filter (λ z. z.atom.0 == n.0) outcomes.old.items) ≤ nodes.old.room }
+    requires spare { length (filter (λ z. z.atom == n.0) (map plain_outcome outcomes.old.items)) ≤ nodes.old.room }
     requires there { x.0 < length nodes.old.nodes }
-    requires nodes { All (λ z. z.node < length nodes.old.nodes) (map plain_outcome outcomes.old.items) }
+    requires older { All (λ z. z.node < length nodes.old.nodes) (map plain_outcome outcomes.old.items) }
     ensures nodes { nodes.new.nodes ≡ nodes.old.nodes ++ nodes_then x.0 (filter (λ z. z.atom == n.0) (map plain_outcome outcomes.old.items)) }
     ensures outcomes { map plain_outcome outcomes.new.items ≡ with_nodes_at n.0 (length nodes.old.nodes) (map plain_outcome outcomes.old.items) }
     ensures room { outcomes.new.room ≡ outcomes.old.room }
 {
     for i in 0..outcomes.len() {
-        let outcome = &outcomes.as_slice()[i];
-        if outcome.atom == n {
-            let node = nodes.push(Node::Then(x, outcome.node));
-            let next = Outcome {
-                node,
-                ..outcome.copy()
-            };
-            outcomes.set(i, next);
+        if is_at(outcomes.as_slice(), i, n) {
+            then_at(nodes, outcomes, x, i);
         }
     }
+}
+
+/// Whether the outcome at a place is of the atom.
+fn is_at(outcomes: &[Outcome], i: usize, n: AtomId) -> bool
+    requires { i < length outcomes.now }
+    ensures { option_map (λ z. z.atom == n.0) (slice_get (map plain_outcome outcomes.now) i) ≡ Some result }
+{
+    outcomes[i].atom == n
+}
+
+/// The outcome at a place has a new node, which is the node x and then its own.
+fn then_at(nodes: &mut Nodes, outcomes: &mut Reserved<Outcome>, x: NodeId, i: usize)
+    requires spare { 0 < nodes.old.room }
+    requires there { x.0 < length nodes.old.nodes }
+    requires place { i < length outcomes.old.items }
+    requires older { All (λ z. z.node < length nodes.old.nodes) (map plain_outcome outcomes.old.items) }
+    ensures nodes { option_map (λ y. nodes.old.nodes ++ Then x.0 y.node ∷ []) (slice_get (map plain_outcome outcomes.old.items) i) ≡ Some nodes.new.nodes }
+    ensures outcomes { option_map (λ y. slice_set (map plain_outcome outcomes.old.items) i (record y { node = length nodes.old.nodes }))
+        (slice_get (map plain_outcome outcomes.old.items) i) ≡ Some (map plain_outcome outcomes.new.items) }
+    ensures nodes_room { nodes.new.room ≡ nodes.old.room - 1 }
+    ensures room { outcomes.new.room ≡ outcomes.old.room }
+{
+    let outcome = &outcomes.as_slice()[i];
+    let node = nodes.push(Node::Then(x, outcome.node));
+    let next = Outcome {
+        node,
+        ..outcome.copy()
+    };
+    outcomes.set(i, next);
 }

@@ -38,7 +38,8 @@ impl Work {
 
 /// The fresh work.
 fn build(alloc: Global, d: &Diagram) -> Result<Work, Memory>
-    ensures { IfOk result (λ w. w.plain ≡ fresh_work d.now) }
+    ensures fresh { IfOk result (λ w. w.plain ≡ fresh_work d.now) }
+    ensures limits { IsWithinLimits d.now }
 {
     Ok(Work {
         agents: d.agents(),

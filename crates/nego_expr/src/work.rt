@@ -53,6 +53,13 @@ pub(crate) fn place_of(outcomes: &[Outcome], o: OutcomeId) -> Option<usize>
     outcomes.binary_search_by_key(&o.0, |x| x.number.0).ok()
 }
 
+/// How many outcomes are of an atom.
+fn count_at(outcomes: &[Outcome], n: AtomId) -> usize
+    ensures { result ≡ length (filter (λ x. x.atom.0 == n.0) outcomes.now) }
+{
+    outcomes.iter().filter(|x| x.atom == n).count()
+}
+
 impl Work {
     /// How many agents there are, at most 16.
     pub fn agents(&self) -> u32
@@ -124,7 +131,7 @@ impl Work {
     pub fn count_of(&self, n: AtomId) -> u32
         ensures { result ≡ length (outcomes_at self.now.plain n.0) }
     {
-        self.outcomes().iter().filter(|x| x.atom == n).count() as u32
+        count_at(self.outcomes.as_slice(), n) as u32
     }
 
     /// Whether there is an alive outcome of this number.

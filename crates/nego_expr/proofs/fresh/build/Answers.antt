@@ -40,6 +40,6 @@ pub invariant_of-result : goal.invariant_of-result
 unfolding fields
 invariant_of-result c = built_usable c.args.d.now (fields c) (built c) c.agents.ensures.limits
 
-pub returns : goal.returns
+pub returns-clause-fresh : goal.returns-clause-fresh
 unfolding fields
-returns c = built_work c.args.d.now (fields c) (built c)
+returns-clause-fresh c = built_work c.args.d.now (fields c) (built c)

@@ -1,7 +1,7 @@
 use Rattle.std.proofs.Common.{◌≡◌, ◌∙◌, ◌+◌, ◌++◌, length, map, take, get_or, ap, sym, subst, refl, arith}
 use Rattle.std.proofs.lemmas.List.{length-map, length-take-le}
 use Rattle.nego_expr.specs.declared.node.Node.TheVariants.{Base}
-use Rattle.nego_expr.specs.Plain.{plain_node}
+use Rattle.nego_expr.specs.NodeView.{plain_node}
 use Rattle.nego_expr.specs.SummaryText.{Appends, node_line, node_lines}
 use Rattle.nego_expr.proofs.Printing.{appends_then, node_lines-more}
 use Rattle.nego_expr.proofs.Seen.{map-take_more}

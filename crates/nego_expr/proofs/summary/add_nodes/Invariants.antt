@@ -1,5 +1,5 @@
 use Rattle.std.proofs.Common.{map, take}
-use Rattle.nego_expr.specs.Plain.{plain_node}
+use Rattle.nego_expr.specs.NodeView.{plain_node}
 use Rattle.nego_expr.specs.SummaryText.{Appends, node_lines}
 use Rattle.nego_expr.proofs.summary.add_nodes.Given as goal
 

@@ -3,7 +3,7 @@ use Rattle.std.specs.List.{All}
 use Rattle.std.proofs.lemmas.List.{map-append, length_push}
 use Rattle.std.proofs.lemmas.List.Elements.{All-nil, All-cons}
 use Rattle.nego_model.specs.Expression.{IsNodeList, children}
-use Rattle.nego_expr.specs.Plain.{plain_node}
+use Rattle.nego_expr.specs.NodeView.{plain_node}
 use Rattle.nego_expr.proofs.AddedNodes.{IsNodeList-append}
 use Rattle.nego_expr.proofs.node.Nodes.push.Goals as goal
 

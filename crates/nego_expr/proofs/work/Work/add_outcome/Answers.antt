@@ -1,7 +1,7 @@
 use Rattle.std.proofs.Common.{◌≡◌, ◌+◌, ◌<◌, ◌∙◌, [], ◌∷◌, ◌++◌, length, map, sym, subst, ap, arith}
 use Rattle.std.proofs.lemmas.List.{map-append}
 use Rattle.nego_expr.specs.Work.{WorkOutcome}
-use Rattle.nego_expr.specs.Plain.{RoomyWork}
+use Rattle.nego_expr.specs.Room.{RoomyWork}
 use Rattle.nego_expr.specs.WorkView.{plain_outcome, AreAlive}
 use Rattle.nego_expr.proofs.UsableWorks.{alive-add}
 use Rattle.nego_expr.proofs.work.Work.add_outcome.Goals as goal

@@ -2,7 +2,6 @@ use Rattle.std.proofs.Common.{◌≡◌, ℕ, ◌==◌, not, List, Option, lengt
 use Rattle.nego_expr.specs.declared.outcome.Outcome.{Outcome}
 use Rattle.std.specs.List.{filter}
 use Rattle.nego_expr.specs.Work.{outcome_among}
-use Rattle.nego_expr.specs.Plain.{with_outcomes}
 use Rattle.nego_expr.specs.WorkView.{plain_outcome, plain_work, AreAlive}
 use Rattle.nego_expr.proofs.Places.{remove-found}
 use Rattle.nego_expr.proofs.UsableWorks.{alive-filter}
@@ -30,4 +29,4 @@ invariant_of-self c =
     }
 
 pub returns-clause-plain : goal.returns-clause-plain
-returns-clause-plain c = rw (← c.self.view_is) (ap (with_outcomes (plain_work c.self.inside)) (after c))
+returns-clause-plain c = rw (← c.self.view_is) (ap (λ outcomes. record (plain_work c.self.inside) { outcomes = outcomes }) (after c))

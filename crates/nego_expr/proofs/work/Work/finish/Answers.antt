@@ -1,6 +1,6 @@
 use Rattle.std.proofs.Common.{◌≡◌, ◌∙◌, length, map, ap, sym}
 use Rattle.std.proofs.lemmas.List.{length-map}
-use Rattle.nego_expr.specs.Use.{outcomes_at}
+use Rattle.nego_expr.specs.Work.{outcomes_at}
 use Rattle.nego_expr.specs.Finish.{finals_of}
 use Rattle.nego_expr.specs.WorkView.{plain_outcome}
 use Rattle.nego_expr.proofs.Finished.{names_as_many}

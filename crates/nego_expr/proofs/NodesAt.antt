@@ -5,7 +5,7 @@ use Rattle.std.proofs.lemmas.Option.{none-some}
 use Rattle.std.proofs.lemmas.List.Elements.{All-nil, All-cons, All-head, All-tail}
 use Rattle.std.specs.List.{All, filter}
 use Rattle.nego_expr.specs.Work.{WorkOutcome, outcome_among}
-use Rattle.nego_expr.specs.Use.{with_nodes_at}
+use Rattle.nego_expr.specs.Edits.{with_nodes_at}
 use Rattle.nego_expr.proofs.Alive.{outcome_among_later}
 use Rattle.nego_expr.proofs.WorkEdits.{numbers_of, with_node, found_cases}
 

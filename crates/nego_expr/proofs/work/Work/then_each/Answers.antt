@@ -1,0 +1,16 @@
+use Rattle.std.proofs.Common.{map}
+use Rattle.nego_expr.specs.WorkView.{plain_outcome}
+use Rattle.nego_expr.proofs.UsableWorks.{alive-then_each}
+use Rattle.nego_expr.proofs.work.Work.then_each.Goals as goal
+
+pub invariant_of-self : goal.invariant_of-self
+invariant_of-self c =
+    let w = c.self.inside in
+    record {
+      few_agents = c.self.invariant.few_agents;
+      few_atoms = c.self.invariant.few_atoms;
+      left_below = c.self.invariant.left_below;
+      alive = rw (c.then_each.ensures.nodes, c.then_each.ensures.outcomes)
+          (alive-then_each w.agents w.numbers c.args.x.0 c.args.n.0 w.nodes.nodes (map plain_outcome w.outcomes.items) c.self.invariant.alive);
+      few_numbers = c.self.invariant.few_numbers;
+    }
