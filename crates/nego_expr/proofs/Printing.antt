@@ -2,7 +2,8 @@
 use Rattle.std.proofs.Common.{◌≡◌, ◌∙◌, ℕ, ◌+◌, List, [], ◌∷◌, ◌++◌, length, ap, refl, arith}
 use Rattle.nego_model.specs.Expression.{PlainNode}
 use Rattle.nego_model.specs.Summary.{PlainFinal}
-use Rattle.nego_expr.specs.SummaryText.{Appends, node_line, node_lines, final_line, final_lines}
+use Rattle.nego_base.specs.Appending.{Appends}
+use Rattle.nego_expr.specs.SummaryText.{node_line, node_lines, final_line, final_lines}
 
 -- two appendings, one after the other
 pub appends_then : (old mid new : List ℕ) (first next : List ℕ → List ℕ) → Appends old mid first → Appends mid new next → Appends old new (λ rest. first (next rest))

@@ -1,5 +1,5 @@
 -- The text of a summary. Every line ends with a newline.
-use Rattle.std.specs.Prelude.{◌≡◌, ℕ, ◌+◌, List, [], ◌∷◌, ◌++◌, map, codes, decimal}
+use Rattle.std.specs.Prelude.{ℕ, ◌+◌, List, [], ◌∷◌, ◌++◌, map, codes, decimal}
 use Rattle.nego_model.specs.Expression.{PlainNode, Base, Join, Then, Star}
 use Rattle.nego_model.specs.Summary.{PlainFinal, PlainSummary}
 use Rattle.nego_expr.specs.declared.summary.Final.{Final}
@@ -41,7 +41,3 @@ final_lines (outcome ∷ outcomes) rest = final_line outcome (final_lines outcom
 -- the text of a summary
 abbrev pub summary_text : PlainSummary → List ℕ
 summary_text summary = codes "summary 1\n" ++ node_lines 0 summary.nodes (final_lines summary.finals (codes "end\n"))
-
--- The new text is the old one with these words behind it, before any rest.
-abbrev pub Appends : List ℕ → List ℕ → (List ℕ → List ℕ) → Type 0
-Appends old new words = (rest : List ℕ) → new ++ rest ≡ old ++ words rest

@@ -2,7 +2,7 @@
 use Rattle.std.specs.Prelude.{ℕ, ◌+◌, Bool, true, false, not, ◌&&◌, ◌==◌, nat_lt, if◌then◌else◌, List, [], ◌∷◌, ◌++◌, length, map, find, Option, Some, None}
 use Rattle.std.specs.List.{list_all, list_any, range_with_len}
 use Rattle.std.specs.Option.{option_map_or}
-use Rattle.nego_base.specs.Members.{is_in, all_in, with_member}
+use Rattle.nego_base.specs.Members.{is_in, all_in, with_member, united}
 use Rattle.nego_model.specs.Expression.{Join, Star}
 use Rattle.nego_expr.specs.Work.{WorkOutcome, PlainWork, outcome_at, outcomes_at, work_parties, sent_to}
 use Rattle.nego_expr.specs.Edits.{with_outcome, without_outcome, without_atom, nodes_then, then_each}
@@ -38,11 +38,6 @@ sends_all agents n x = list_all (λ a. same_target (sent_to x a) (Some n)) agent
 abbrev pub merges : PlainWork → WorkOutcome → WorkOutcome → Bool
 merges work x y =
     nat_lt x.number y.number && ((x.atom == y.atom) && (not (x.atom == work.last) && send_alike (work_parties work x.atom) x y))
-
--- both sets' members
-abbrev pub united : List ℕ → List ℕ → List ℕ
-united [] ys = ys
-united (x ∷ xs) ys = with_member x (united xs ys)
 
 -- A merge of two outcomes: the first has a node that joins both, and has passed what either passed; the second is gone.
 abbrev pub merged : PlainWork → WorkOutcome → WorkOutcome → PlainWork

@@ -43,7 +43,7 @@ fn build(alloc: Global, d: &Diagram) -> Result<Work, Memory>
 {
     Ok(Work {
         agents: d.agents(),
-        left: all_atoms(d.atoms()),
+        left: AtomSet::below(d.atoms()),
         parties: parties_of_atoms(alloc, d)?,
         first: d.first(),
         last: d.last(),
@@ -53,18 +53,6 @@ fn build(alloc: Global, d: &Diagram) -> Result<Work, Memory>
         names: final_names(alloc, d)?,
         bases: parties_of_outcomes(alloc, d)?,
     })
-}
-
-/// The atoms of the numbers below the count.
-fn all_atoms(count: u32) -> AtomSet
-    requires { count ≤ 64 }
-    ensures { result ≡ range_with_len 0 count }
-{
-    let mut all = AtomSet::none();
-    for n in 0..count {
-        all = all.with(AtomId(n));
-    }
-    all
 }
 
 /// The parties of each atom.

@@ -1,9 +1,8 @@
 -- The law of merging.
-use Rattle.std.specs.Prelude.{ℕ, IsTrue}
-use Rattle.nego_expr.specs.Work.{PlainWork, IsWork}
-use Rattle.nego_expr.specs.Use.{can_merge, merged}
-use Rattle.nego_expr.specs.Keeps.{Keeps}
+use Rattle.std.specs.Prelude.{ℕ}
+use Rattle.nego_expr.specs.Use.{Merge}
+use Rattle.nego_expr.specs.Keeps.{IsKeeping}
 
--- An allowed merge leaves a work, and keeps soundness and what the runs relate.
+-- Merges that a work allows keep.
 abbrev pub MergingKeeps : Type 0
-MergingKeeps = (work : PlainWork) (o1 o2 : ℕ) → IsWork work → IsTrue (can_merge work o1 o2) → IsWork (merged work o1 o2) × Keeps work (merged work o1 o2)
+MergingKeeps = (o1 o2 : ℕ) → IsKeeping (Merge o1 o2)

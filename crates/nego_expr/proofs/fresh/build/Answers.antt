@@ -8,7 +8,7 @@ use Rattle.nego_expr.proofs.fresh.build.Goals.{In_ok-parties_of_outcomes}
 fields : In_ok-parties_of_outcomes → Inside
 fields c = record {
   agents = c.agents.result;
-  left = c.all_atoms.result;
+  left = c.below.result;
   parties = c.in_ok-parties_of_atoms.field-0;
   first = c.first.result;
   last = c.last.result;
@@ -24,7 +24,7 @@ built : (c : In_ok-parties_of_outcomes) → IsBuilt c.args.d.now (fields c)
 unfolding fields
 built c = record {
   agents = c.agents.ensures.value;
-  left = rw (sym c.atoms.ensures.value) c.all_atoms.ensures;
+  left = rw (sym c.atoms.ensures.value) c.below.ensures.value;
   parties = c.in_ok-parties_of_atoms.ensures;
   first = c.first.ensures.value;
   last = c.last.ensures.value;

@@ -1,5 +1,6 @@
 use Rattle.std.proofs.Common.{◌∙◌, ◌++◌, map, take, ap, sym, subst}
-use Rattle.nego_expr.specs.SummaryText.{Appends, plain_final, final_line, final_lines}
+use Rattle.nego_base.specs.Appending.{Appends}
+use Rattle.nego_expr.specs.SummaryText.{plain_final, final_line, final_lines}
 use Rattle.nego_expr.proofs.Printing.{appends_then, final_lines-more}
 use Rattle.nego_expr.proofs.Seen.{map-take_more}
 use Rattle.nego_expr.proofs.summary.add_finals.Goals as goal

@@ -1,5 +1,6 @@
 use Rattle.std.proofs.Common.{map, take}
-use Rattle.nego_expr.specs.SummaryText.{Appends, plain_final, final_lines}
+use Rattle.nego_base.specs.Appending.{Appends}
+use Rattle.nego_expr.specs.SummaryText.{plain_final, final_lines}
 use Rattle.nego_expr.proofs.summary.add_finals.Given as goal
 
 -- the lines of the final outcomes so far

@@ -1,8 +1,9 @@
 use Rattle.std.proofs.Common.{◌≡◌, ◌∙◌, ◌+◌, ◌++◌, length, map, take, get_or, ap, sym, subst, refl, arith}
 use Rattle.std.proofs.lemmas.List.{length-map, length-take-le}
+use Rattle.nego_base.specs.Appending.{Appends}
 use Rattle.nego_expr.specs.declared.node.Node.TheVariants.{Base}
 use Rattle.nego_expr.specs.NodeView.{plain_node}
-use Rattle.nego_expr.specs.SummaryText.{Appends, node_line, node_lines}
+use Rattle.nego_expr.specs.SummaryText.{node_line, node_lines}
 use Rattle.nego_expr.proofs.Printing.{appends_then, node_lines-more}
 use Rattle.nego_expr.proofs.Seen.{map-take_more}
 use Rattle.nego_expr.proofs.summary.add_nodes.Goals as goal

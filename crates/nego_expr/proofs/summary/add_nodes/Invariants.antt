@@ -1,6 +1,7 @@
 use Rattle.std.proofs.Common.{map, take}
+use Rattle.nego_base.specs.Appending.{Appends}
 use Rattle.nego_expr.specs.NodeView.{plain_node}
-use Rattle.nego_expr.specs.SummaryText.{Appends, node_lines}
+use Rattle.nego_expr.specs.SummaryText.{node_lines}
 use Rattle.nego_expr.proofs.summary.add_nodes.Given as goal
 
 -- the lines of the nodes so far
