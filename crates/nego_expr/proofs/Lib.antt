@@ -2,6 +2,7 @@ pub mod AddedNodes
 pub mod Alive
 pub mod BaseNodes
 pub mod EditCalls
+pub mod EditedWorks
 pub mod Finished
 pub mod Finishing
 pub mod FreshBuilt
@@ -11,6 +12,7 @@ pub mod FreshWorks
 pub mod KeptWorks
 pub mod Leading
 pub mod LocalWorks
+pub mod MadeUses
 pub mod NodesAt
 pub mod OneAtomLeft
 pub mod Places

@@ -111,14 +111,16 @@ rises-passing test low (y ∷ ys) h = go (test y) (rises-passing test (y.number 
     go true k = (h.0, k)
     go false k = rises_more low (y.number + 1) (numbers_of (filter test ys)) (let from : low ≤ y.number = h.0 in omega (arith, from)) k
 
--- those that pass a test, of those that pass it, are all of them
-pub filter-filter : (test : WorkOutcome → Bool) (outcomes : List WorkOutcome) → filter test (filter test outcomes) ≡ filter test outcomes
-filter-filter test [] = refl
-filter-filter test (y ∷ ys) = go (test y) refl (filter-filter test ys)
+-- those that pass a test, of those that pass a wider one, are all of them
+pub filter-within : (p q : WorkOutcome → Bool) → ((z : WorkOutcome) → p z ≡ true → q z ≡ true) → (zs : List WorkOutcome) → filter p (filter q zs) ≡ filter p zs
+filter-within p q h [] = refl
+filter-within p q h (y ∷ ys) = go (p y) (q y) refl refl (filter-within p q h ys)
   where
-    go : (b : Bool) → test y ≡ b → filter test (filter test ys) ≡ filter test ys → filter test (cond b (y ∷ filter test ys) (filter test ys)) ≡ cond b (y ∷ filter test ys) (filter test ys)
-    go true e k = cond-true (test y) (y ∷ filter test (filter test ys)) (filter test (filter test ys)) e ∙ ap (◌∷◌ y) k
-    go false e k = k
+    go : (b t : Bool) → p y ≡ b → q y ≡ t → filter p (filter q ys) ≡ filter p ys → filter p (cond t (y ∷ filter q ys) (filter q ys)) ≡ cond b (y ∷ filter p ys) (filter p ys)
+    go true true e f k = cond-true (p y) (y ∷ filter p (filter q ys)) (filter p (filter q ys)) e ∙ ap (◌∷◌ y) k
+    go true false e f k = absurd (true≢false (sym (h y e) ∙ f))
+    go false true e f k = cond-false (p y) (y ∷ filter p (filter q ys)) (filter p (filter q ys)) e ∙ k
+    go false false e f k = k
 
 -- two tests may be made in any order
 pub filter-swap : (p q : WorkOutcome → Bool) (outcomes : List WorkOutcome) → filter p (filter q outcomes) ≡ filter q (filter p outcomes)
