@@ -1,95 +1,67 @@
 //! When an outcome may be iterated, and the iteration.
-ghost use Rattle.std.specs.Prelude.{◌≡◌, ◌+◌, ◌<◌, ◌≤◌, false, IsTrue, IsSome, OnOk, OnErr, IfErr, Some, Err, length};
-ghost use Rattle.std.specs.List.{list_all};
-ghost use Rattle.nego_expr.specs.Work.{WorkOutcome, IsWork, outcome_at, work_parties, sent_to};
-ghost use Rattle.nego_expr.specs.Use.{can_iterate, iterated, most_nodes, same_target};
-ghost use Rattle.nego_expr.specs.Keeps.{KeepsLocally};
-ghost use Rattle.nego_iterate.specs.Composing.{nodes_to_iterate};
+ghost use Rattle.std.specs.Prelude.{◌≡◌, ◌≤◌, false, IsTrue, IfSome, IfNone, Some, length};
+ghost use Rattle.nego_expr.specs.Work.{IsWork, outcome_at, outcomes_at};
+ghost use Rattle.nego_expr.specs.Use.{Iterate, allows, iterated, iterates};
+ghost use Rattle.nego_expr.specs.Made.{IsMade};
+ghost use Rattle.nego_expr.specs.WorkView.{plain_outcome};
 
-use crate::composing::compose_all;
-use nego_base::{AgentId, AtomId, OutcomeId};
-use nego_expr::{Node, RuleFault, Work};
+use nego_base::OutcomeId;
+use nego_expr::{Node, Outcome, RuleFault, Work};
 
 /// Whether the outcome may be iterated: it is alive, its atom isn't the last and has another outcome, and it sends every
 /// party back to its atom.
 pub fn can_iterate(w: &Work, o: OutcomeId) -> bool
     requires work { IsWork w.now.plain }
-    ensures { result ≡ can_iterate w.now.plain o.0 }
+    ensures { result ≡ allows w.now.plain (Iterate o.0) }
 {
-    w.alive(o) && w.atom_of(o) != w.last() && sends_back(w, o) && w.count_of(w.atom_of(o)) > 1
+    iterating_outcome(w, o).is_some()
 }
 
-/// Whether an alive outcome sends each party back to its atom.
-fn sends_back(w: &Work, o: OutcomeId) -> bool
+/// The outcome of this number, where it may be iterated.
+fn iterating_outcome(w: &Work, o: OutcomeId) -> Option<&Outcome>
     requires work { IsWork w.now.plain }
-    requires alive { IsSome (outcome_at w.now.plain o.0) }
-    ensures { (x : WorkOutcome) → outcome_at w.now.plain o.0 ≡ Some x →
-        result ≡ list_all (λ a. same_target (sent_to x a) (Some x.atom)) (work_parties w.now.plain x.atom) }
+    ensures found { IfSome result (λ x. outcome_at w.now.plain o.0 ≡ Some (plain_outcome x.now)) }
+    ensures iterates { IfSome result (λ x. IsTrue (iterates w.now.plain (plain_outcome x.now))) }
+    ensures none { IfNone result (allows w.now.plain (Iterate o.0) ≡ false) }
 {
-    let n = w.atom_of(o);
-    let mut rest = w.parties(n);
-    while let Some(a) = rest.least() {
-        if !sends(w, o, a, n) {
-            return false;
-        }
-        rest = rest.without(a);
+    let x = w.outcome(o)?;
+    if !iterates(w, x) {
+        return None;
     }
-    true
+    Some(x)
 }
 
-/// Whether an alive outcome sends the agent to the atom.
-fn sends(w: &Work, o: OutcomeId, a: AgentId, n: AtomId) -> bool
-    requires alive { IsSome (outcome_at w.now.plain o.0) }
-    requires agent { a.0 < w.now.plain.agents }
-    ensures { (x : WorkOutcome) → outcome_at w.now.plain o.0 ≡ Some x → result ≡ same_target (sent_to x a.0) (Some n.0) }
+/// Whether the outcome sends every party back to its atom, which isn't the last and has another outcome.
+fn iterates(w: &Work, x: &Outcome) -> bool
+    requires work { IsWork w.now.plain }
+    requires alive { outcome_at w.now.plain x.now.number.0 ≡ Some (plain_outcome x.now) }
+    ensures { result ≡ iterates w.now.plain (plain_outcome x.now) }
 {
-    w.target(o, a) == Some(n)
+    x.atom != w.last() && x.sends_all(w.parties(x.atom), x.atom) && w.count_of(x.atom) > 1
 }
 
-/// Iterates the outcome: it is put, any number of times, before each other outcome of its atom, and is gone. On each
-/// refusal the work is as before. `Guard` comes exactly where the iteration isn't allowed, and `Nodes` exactly where it is
-/// allowed and there would be more than 20,000 nodes.
+/// Iterates the outcome: it is put, any number of times, before each other outcome of its atom, and is gone.
 pub fn iterate(w: &mut Work, o: OutcomeId) -> Result<(), RuleFault>
     requires work { IsWork w.old.plain }
-    ensures allowed { OnOk result (IsTrue (can_iterate w.old.plain o.0)) }
-    ensures iterated { OnOk result (w.new.plain ≡ iterated w.old.plain o.0) }
-    ensures work { IsWork w.new.plain }
-    ensures keeps { OnOk result (KeepsLocally w.old.plain w.new.plain) }
-    ensures guard { can_iterate w.old.plain o.0 ≡ false → result ≡ Err RuleFault.Guard }
-    ensures only_guard { IfErr result (λ e. e ≡ RuleFault.Guard → can_iterate w.old.plain o.0 ≡ false) }
-    ensures nodes { IsTrue (can_iterate w.old.plain o.0) →
-        most_nodes < length w.old.plain.nodes + nodes_to_iterate w.old.plain o.0 → result ≡ Err RuleFault.Nodes }
-    ensures only_nodes { IfErr result (λ e. e ≡ RuleFault.Nodes → IsTrue (can_iterate w.old.plain o.0)
-        × (most_nodes < length w.old.plain.nodes + nodes_to_iterate w.old.plain o.0)) }
-    ensures err { OnErr result (w.new.plain ≡ w.old.plain) }
+    ensures { IsMade (Iterate o.0) w.old.plain w.new.plain result }
 {
-    if !can_iterate(w, o) {
+    let Some(x) = iterating_outcome(w, o) else {
         return Err(RuleFault::Guard);
-    }
-    let nodes = nodes_to_iterate(w, o);
-    w.room(nodes, 0)?;
-    put_before_others(w, o);
+    };
+    let x = x.copy();
+    w.room(w.count_of(x.atom), 0)?;
+    put_before_others(w, &x);
     Ok(())
 }
 
-/// How many nodes the iteration of an alive outcome adds: one, and one for each other outcome of its atom.
-fn nodes_to_iterate(w: &Work, o: OutcomeId) -> u32
-    requires { IsSome (outcome_at w.now.plain o.0) }
-    ensures { result ≡ nodes_to_iterate w.now.plain o.0 }
-{
-    w.count_of(w.atom_of(o))
-}
-
 /// The outcome goes, any number of times, before each other outcome of its atom, for which there is room.
-fn put_before_others(w: &mut Work, o: OutcomeId)
+fn put_before_others(w: &mut Work, x: &Outcome)
     requires work { IsWork w.old.plain }
-    requires guard { IsTrue (can_iterate w.old.plain o.0) }
-    requires spare { nodes_to_iterate w.old.plain o.0 ≤ w.old.spare_nodes }
-    ensures { w.new.plain ≡ iterated w.old.plain o.0 }
+    requires alive { outcome_at w.old.plain x.now.number.0 ≡ Some (plain_outcome x.now) }
+    requires spare { length (outcomes_at w.old.plain x.now.atom.0) ≤ w.old.spare_nodes }
+    ensures { w.new.plain ≡ iterated w.old.plain (plain_outcome x.now) }
 {
-    let n = w.atom_of(o);
-    let own = w.node_of(o);
-    let star = w.add_node(Node::Star(own));
-    w.drop_outcome(o);
-    compose_all(w, star, n);
+    let star = w.add_node(Node::Star(x.node));
+    w.drop_outcome(x.number);
+    w.then_each(star, x.atom);
 }

@@ -2,7 +2,6 @@
 //! atom's other outcomes.
 #![tactic(auto)]
 
-mod composing;
 mod iterating;
 mod law;
 

@@ -1,3 +1,2 @@
-pub mod SendAlike
 pub mod MergeEdits
 pub mod MergeKeeps

@@ -1,44 +1,30 @@
 -- The edits of a merge, one after the other, give its effect.
-use Rattle.std.proofs.Common.{◌≡◌, ℕ, not, ◌==◌, List, length, Option, Some, option_map, sym, ap, ap₂, ◌∙◌}
+use Rattle.std.proofs.Common.{◌≡◌, ◌≢◌, ℕ, List, [], ◌∷◌, ◌++◌, length, Some, option_map, ap, ap₂, ◌∙◌}
+use Rattle.std.proofs.lemmas.Option.{same_Some}
+use Rattle.nego_base.specs.Members.{united}
 use Rattle.nego_model.specs.Expression.{Join}
-use Rattle.nego_expr.specs.Work.{WorkOutcome, PlainWork, outcome_at, IsWork}
-use Rattle.nego_expr.specs.Use.{united, without_outcome, with_outcome, merged}
-use Rattle.nego_expr.specs.Plain.{changed, with_node, with_outcomes, set_outcome, drop_outcome}
-use Rattle.nego_expr.proofs.EditCalls.{read_at, only_found, map-changed}
-use Rattle.nego_expr.proofs.WorkEdits.{found-number, filter-with_outcome, All-found}
-use Rattle.nego_merge.proofs.MergeKeeps.{merged-pair}
+use Rattle.nego_expr.specs.Work.{WorkOutcome, PlainWork, outcome_at}
+use Rattle.nego_expr.specs.Edits.{with_outcome, without_outcome}
+use Rattle.nego_expr.specs.Use.{merged}
+use Rattle.nego_expr.proofs.WorkEdits.{found-without_other}
 
-module _ (work : PlainWork) (ok : IsWork work) (o1 o2 : ℕ) (x y : WorkOutcome) (first : outcome_at work o1 ≡ Some x) (second : outcome_at work o2 ≡ Some y) where
-  -- the first's outcome, then the second gone
-  set_and_drop : drop_outcome (set_outcome (with_node work (Join x.node y.node)) o1 x.targets (length work.nodes) (united x.passed y.passed)) o2 ≡ merged work o1 o2
-  set_and_drop =
-      ap (λ outcomes. with_outcomes (with_node work (Join x.node y.node)) outcomes)
-      (ap (without_outcome o2) (map-changed x.targets (length work.nodes) (united x.passed y.passed) o1 x (found-number work.outcomes o1 x first) work.outcomes (only_found work.outcomes o1 x ok.numbers_rise first))
-      ∙ (filter-with_outcome (λ z. not (z.number == o2)) joined work.outcomes (λ k d l e. ap (λ n. not (n == o2)) e)
-      ∙ ap (λ n. with_outcome joined (without_outcome n work.outcomes)) (sym (found-number work.outcomes o2 y second))))
-      ∙ sym (merged-pair work o1 o2 x y first second)
+module _ (work : PlainWork) (x y : WorkOutcome) (first : outcome_at work x.number ≡ Some x) (apart : x.number ≢ y.number) (added dropped : PlainWork)
+  (adds : added ≡ record work { nodes = work.nodes ++ Join x.node y.node ∷ [] }) (drops : dropped ≡ record added { outcomes = without_outcome y.number added.outcomes }) where
+  abbrev drop_second : PlainWork → PlainWork
+  drop_second w = record w { outcomes = without_outcome y.number w.outcomes }
+
+  without : dropped ≡ record work { nodes = work.nodes ++ Join x.node y.node ∷ []; outcomes = without_outcome y.number work.outcomes }
+  without = drops ∙ ap drop_second adds
+
+  -- the first is still found where the second is gone
+  pub first_left : outcome_at dropped x.number ≡ Some x
+  first_left = ap (λ w. outcome_at w x.number) without ∙ (found-without_other y.number work.outcomes x.number apart ∙ first)
+
+  pub merged_by_edits : (new : PlainWork) (node : ℕ) (passed : List ℕ) → node ≡ length work.nodes → passed ≡ united x.passed y.passed →
+      Some new ≡ option_map (λ z. record dropped { outcomes = with_outcome (record z { targets = x.targets; node = node; passed = passed }) dropped.outcomes }) (outcome_at dropped x.number) → new ≡ merged work x y
+  merged_by_edits new node passed n p sets =
+      same_Some new (set dropped node passed) (sets ∙ ap (option_map (λ z. record dropped { outcomes = with_outcome (record z { targets = x.targets; node = node; passed = passed }) dropped.outcomes })) first_left)
+      ∙ (ap (λ w. set w node passed) without ∙ ap₂ (set (record work { nodes = work.nodes ++ Join x.node y.node ∷ []; outcomes = without_outcome y.number work.outcomes })) n p)
     where
-      joined : WorkOutcome
-      joined = changed x.targets (length work.nodes) (united x.passed y.passed) x
-
-  -- so do the edits with what the readers read
-  pub merged_by_edits : (targets : List (Option ℕ)) (n m node : ℕ) (p q passed : List ℕ) (added set dropped : PlainWork) →
-      option_map (λ z. z.targets) (outcome_at work o1) ≡ Some targets → option_map (λ z. z.node) (outcome_at work o1) ≡ Some n → option_map (λ z. z.node) (outcome_at work o2) ≡ Some m →
-      option_map (λ z. z.passed) (outcome_at work o1) ≡ Some p → option_map (λ z. z.passed) (outcome_at work o2) ≡ Some q → passed ≡ united p q → node ≡ length work.nodes →
-      added ≡ with_node work (Join n m) → set ≡ set_outcome added o1 targets node passed → dropped ≡ drop_outcome set o2 → dropped ≡ merged work o1 o2
-  merged_by_edits targets n m node p q passed added set dropped et en em ep eq eu eo ea es ed =
-      ed ∙ (ap (λ w. drop_outcome w o2) (es ∙ (ap (λ w. set_outcome w o1 targets node passed) ea ∙ (nodes ∙ (places ∙ sets)))) ∙ set_and_drop)
-    where
-      nodes : set_outcome (with_node work (Join n m)) o1 targets node passed ≡ set_outcome (with_node work (Join x.node y.node)) o1 targets node passed
-      nodes = ap₂ (λ i j. set_outcome (with_node work (Join i j)) o1 targets node passed) (read_at (λ z. z.node) (outcome_at work o1) x n first en) (read_at (λ z. z.node) (outcome_at work o2) y m second em)
-
-      places : set_outcome (with_node work (Join x.node y.node)) o1 targets node passed ≡ set_outcome (with_node work (Join x.node y.node)) o1 x.targets (length work.nodes) passed
-      places = ap₂ (λ ts i. set_outcome (with_node work (Join x.node y.node)) o1 ts i passed) (read_at (λ z. z.targets) (outcome_at work o1) x targets first et) eo
-
-      sets : set_outcome (with_node work (Join x.node y.node)) o1 x.targets (length work.nodes) passed ≡ set_outcome (with_node work (Join x.node y.node)) o1 x.targets (length work.nodes) (united x.passed y.passed)
-      sets = ap (λ ps. set_outcome (with_node work (Join x.node y.node)) o1 x.targets (length work.nodes) ps)
-          (eu ∙ ap₂ united (read_at (λ z. z.passed) (outcome_at work o1) x p first ep) (read_at (λ z. z.passed) (outcome_at work o2) y q second eq))
-
-  -- the first's targets are one for each agent
-  pub targets_fit : (targets : List (Option ℕ)) → option_map (λ z. z.targets) (outcome_at work o1) ≡ Some targets → length targets ≡ work.agents
-  targets_fit targets h = ap length (read_at (λ z. z.targets) (outcome_at work o1) x targets first h) ∙ All-found (λ z. length z.targets ≡ work.agents) work.outcomes o1 x ok.targets_fit first
+      set : PlainWork → ℕ → List ℕ → PlainWork
+      set w i ps = record w { outcomes = with_outcome (record x { node = i; passed = ps }) w.outcomes }

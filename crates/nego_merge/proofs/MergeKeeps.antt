@@ -1,30 +1,34 @@
 -- A merge keeps soundness and what the runs relate: what one occurrence reaches before, one occurrence reaches behind it,
 -- and the other way round.
-use Rattle.std.proofs.Common.{◌≡◌, ◌≢◌, ◌⊎◌, ◌↔◌, inl, inr, ⊎_elim, ℕ, ◌+◌, ◌<◌, Bool, not, ◌==◌, ◌&&◌, List, [], ◌∷◌, length, slice_index_or, nat_lt, Option, Some, None, IsTrue, refl, sym, subst, ap, ◌∙◌, arith, ne_eqb, eqb-true}
+use Rattle.std.proofs.Common.{◌≡◌, ◌≢◌, ◌⊎◌, ◌↔◌, inl, inr, ⊎_elim, ℕ, ◌<◌, Bool, not, ◌==◌, ◌&&◌, List, [], ◌∷◌, length, nat_lt, Option, Some, None, IsTrue, false, refl, sym, subst, ap, ◌∙◌, arith, ne_eqb, eqb-true}
 use Rattle.std.proofs.lemmas.Bool.{and_parts, and_from, cases_eq, eqb-false, false≢true, not-true, not_from_false, ltb-true, false_from_ne_true}
 use Rattle.std.proofs.lemmas.Option.{same_Some}
 use Rattle.std.proofs.lemmas.List.{length-append}
 use Rattle.std.proofs.lemmas.List.Elements.{All-nil, All-cons, All-weaker}
-use Rattle.std.specs.List.{All, list_all}
+use Rattle.std.specs.List.{All}
 use Rattle.std.specs.Option.{option_map_or, option_to_list}
-use Rattle.nego_base.specs.Members.{is_in, all_in, without_member, IsRising}
-use Rattle.nego_model.specs.Negotiation.{Negotiation, IsNegotiation}
+use Rattle.nego_base.specs.Members.{is_in, without_member, united, IsRising}
+use Rattle.nego_model.specs.Negotiation.{Negotiation}
 use Rattle.nego_model.specs.Occurring.{PlainMarking, after}
 use Rattle.nego_model.specs.Joining.{RelationTest, By}
 use Rattle.nego_model.specs.Expression.{PlainNode, Join, EachBase, children}
 use Rattle.nego_model.specs.Reaching.{Reaches}
 use Rattle.nego_base.proofs.Members.{is_in_none, all_at, some_member, is_in-without, rises-without, without-other}
 use Rattle.nego_model.proofs.occurrence.Steps.{after-outcome}
-use Rattle.nego_model.proofs.expressions.Nodes.{Means-newest, EachBase-newest, EachBase-weaker}
+use Rattle.nego_model.proofs.expressions.Bases.{AllBases_one}
+use Rattle.nego_model.proofs.expressions.Nodes.{Means-newest, EachBase-newest}
 use Rattle.nego_model.proofs.occurrence.Reached.{Leads_one, Reaches_one}
 use Rattle.nego_model.proofs.simulation.Simulations.{SameAtoms, SameAtoms-turned, same-after, Anywhere, StepsLed, StepsReached, Sound-same, Runs-same}
 use Rattle.nego_expr.specs.Work.{WorkOutcome, PlainWork, outcome_at, work_parties, work_outcomes, sent_to, negotiation_of_work, ByWork, IsWork}
-use Rattle.nego_expr.specs.Use.{same_target, merges, can_merge, united, without_outcome, merged_of, merged}
+use Rattle.nego_expr.specs.Use.{Merge, same_target, send_alike, merges, merged, allows, after_use}
+use Rattle.nego_expr.specs.Edits.{without_outcome}
 use Rattle.nego_expr.specs.Keeps.{Keeps}
 use Rattle.nego_expr.proofs.Alive.{each_found, ByWork-found}
-use Rattle.nego_expr.proofs.AddedNodes.{IsNodeList-append, EachBase-append, ByWork-kept}
-use Rattle.nego_expr.proofs.WorkEdits.{numbers_of, All-found, found-number, there_found, numbers-with_outcome, passing-with_outcome, found-with_outcome, found-with_other, All-with_outcome, numbers-without_outcome, passing-without_outcome, found-without_other, All-without_outcome}
-use Rattle.nego_expr.proofs.WorkForm.{OutcomeFits, AtomsFit, AtomsFit_from, outcome_found, found-atom, found_outcome, next-found, work-deterministic, negotiation_from_fits, fits_from_work}
+use Rattle.nego_expr.proofs.EditCalls.{allowed_at, found_itself}
+use Rattle.nego_expr.proofs.EditedWorks.{IsWithin, IsOutcomeOf, AreFurther, outcomes_of_work, edited_work, outcome_kept, outcome_renewed}
+use Rattle.nego_expr.proofs.AddedNodes.{ByWork-kept}
+use Rattle.nego_expr.proofs.WorkEdits.{numbers_of, All-found, there_found, numbers-with_outcome, passing-with_outcome, found-with_outcome, found-with_other, All-with_outcome, numbers-without_outcome, passing-without_outcome, found-without_other, All-without_outcome}
+use Rattle.nego_expr.proofs.WorkForm.{outcome_found, found-atom, found_outcome, next-found, work-deterministic}
 use Rattle.nego_merge.specs.Law.{MergingKeeps}
 
 -- two alive outcomes of one atom that isn't the last, which send each party to the same atom
@@ -43,51 +47,39 @@ same-target None (Some n) h = absurd (false≢true h)
 same-target (Some m) None h = absurd (false≢true h)
 same-target (Some m) (Some n) h = ap Some (eqb-true m n h)
 
--- what the guard says of what is found
-merges_parts : (work : PlainWork) (o1 o2 : ℕ) (f g : Option WorkOutcome) → o1 < o2 → outcome_at work o1 ≡ f → outcome_at work o2 ≡ g → IsTrue (merges work f g) →
-    (x : WorkOutcome) × (y : WorkOutcome) × (f ≡ Some x) × (g ≡ Some y) × Merges work x y
-merges_parts work o1 o2 None g l e k h = absurd (false≢true h)
-merges_parts work o1 o2 (Some x) None l e k h = absurd (false≢true h)
-merges_parts work o1 o2 (Some x) (Some y) l e k h = (
-  x,
-  y,
-  refl,
-  refl,
-  record {
-    first = subst (λ o. outcome_at work o ≡ Some x) (sym number) e;
-    second = subst (λ o. outcome_at work o ≡ Some y) (sym number') k;
-    apart = λ q. let no_more : ⊥ = omega (arith, l, q, number, number') in no_more;
-    one_atom = eqb-true x.atom y.atom p.0;
-    not_last = eqb-false x.atom work.last (not-true (x.atom == work.last) q.0);
-    alike = λ a m. same-target (sent_to x a) (sent_to y a) (all_at (λ b. same_target (sent_to x b) (sent_to y b)) (work_parties work x.atom) a q.1 m);
-  },
-)
+-- what the guard says
+pub merges_parts : (work : PlainWork) (x y : WorkOutcome) → outcome_at work x.number ≡ Some x → outcome_at work y.number ≡ Some y → IsTrue (merges work x y) → Merges work x y
+merges_parts work x y first second h = record {
+  first = first;
+  second = second;
+  apart = λ q. let no_more : ⊥ = omega (arith, ltb-true x.number y.number k.0, q) in no_more;
+  one_atom = eqb-true x.atom y.atom p.0;
+  not_last = eqb-false x.atom work.last (not-true (x.atom == work.last) q.0);
+  alike = λ a m. same-target (sent_to x a) (sent_to y a) (all_at (λ b. same_target (sent_to x b) (sent_to y b)) (work_parties work x.atom) a q.1 m);
+}
   where
-    number : x.number ≡ o1
-    number = found-number work.outcomes o1 x e
+    alike : Bool
+    alike = send_alike (work_parties work x.atom) x y
 
-    number' : y.number ≡ o2
-    number' = found-number work.outcomes o2 y k
+    k : IsTrue (nat_lt x.number y.number) × IsTrue ((x.atom == y.atom) && (not (x.atom == work.last) && alike))
+    k = and_parts (nat_lt x.number y.number) ((x.atom == y.atom) && (not (x.atom == work.last) && alike)) h
 
-    targets : Bool
-    targets = list_all (λ a. same_target (sent_to x a) (sent_to y a)) (work_parties work x.atom)
+    p : IsTrue (x.atom == y.atom) × IsTrue (not (x.atom == work.last) && alike)
+    p = and_parts (x.atom == y.atom) (not (x.atom == work.last) && alike) k.1
 
-    p : IsTrue (x.atom == y.atom) × IsTrue (not (x.atom == work.last) && targets)
-    p = and_parts (x.atom == y.atom) (not (x.atom == work.last) && targets) h
-
-    q : IsTrue (not (x.atom == work.last)) × IsTrue targets
-    q = and_parts (not (x.atom == work.last)) targets p.1
+    q : IsTrue (not (x.atom == work.last)) × IsTrue alike
+    q = and_parts (not (x.atom == work.last)) alike p.1
 
 module _ (work : PlainWork) (x y : WorkOutcome) (ok : IsWork work) (two : Merges work x y) where
   abbrev new : PlainWork
-  new = merged_of work x y
+  new = merged work x y
 
   abbrev node : PlainNode
   node = Join x.node y.node
 
   -- the one outcome that the two become
   abbrev joined : WorkOutcome
-  joined = record { number = x.number; atom = x.atom; targets = x.targets; node = length work.nodes; passed = united x.passed y.passed }
+  joined = record x { node = length work.nodes; passed = united x.passed y.passed }
 
   abbrev before : Negotiation
   before = negotiation_of_work work
@@ -155,15 +147,6 @@ module _ (work : PlainWork) (x y : WorkOutcome) (ok : IsWork work) (two : Merges
   at_second : (P : WorkOutcome → Type 0) → All P work.outcomes → P y
   at_second P h = All-found P work.outcomes y.number y h two.second
 
-  fits_new : (z w : WorkOutcome) → w.atom ≡ z.atom → ((a : ℕ) → sent_to w a ≡ sent_to z a) → OutcomeFits work z → OutcomeFits new w
-  fits_new z w e s h = record {
-    there = subst (λ n. IsTrue (is_in n before.atoms)) (sym e) h.there;
-    ends = λ l a. s a ∙ h.ends (sym e ∙ l) a;
-    leads = λ l a p q. h.leads (λ k. l (e ∙ k)) a (subst (λ n. IsTrue (is_in a (work_parties work n))) e p) (sym (s a) ∙ q);
-    stays = λ a. ⊎_elim (λ p. inl (subst (λ n. IsTrue (is_in a (work_parties work n))) (sym e) p)) (λ q. inr (s a ∙ q)) (h.stays a);
-    sends = λ a m q. h.sends a m (sym (s a) ∙ q);
-  }
-
   -- each atom keeps an outcome
   some : (n : ℕ) → IsTrue (is_in n before.atoms) → work_outcomes new n ≢ []
   some n h e =
@@ -175,67 +158,35 @@ module _ (work : PlainWork) (x y : WorkOutcome) (ok : IsWork work) (two : Merges
       (λ q. is_in_none o.0 (work_outcomes new n) e (is_in_new n o.0 q o.1))
       (cases_eq o.0 y.number)
 
-  form : IsNegotiation behind
-  form = negotiation_from_fits new atoms rise (each_left (OutcomeFits new) (fits_new x joined refl (λ a. refl) (at_first (OutcomeFits work) fits)) (All-weaker (OutcomeFits work) (OutcomeFits new) (λ z h. fits_new z z refl (λ a. refl) h) work.outcomes fits)) some
-    where
-      fits : All (OutcomeFits work) work.outcomes
-      fits = fits_from_work work ok
-
-      atoms : AtomsFit behind
-      atoms = let k = AtomsFit_from before ok.form in record {
-        first_there = k.first_there;
-        last_there = k.last_there;
-        atoms_rise = k.atoms_rise;
-        parties_rise = k.parties_rise;
-        party_below = k.party_below;
-        some_party = k.some_party;
-        all_begin = k.all_begin;
-        all_end = k.all_end;
-      }
-
   -- the last atom keeps its outcomes
   finals : work_outcomes work work.last ≡ work_outcomes new new.last
   finals = sym (outcomes-new work.last ∙ without-other y.number (work_outcomes work work.last)
       (false_from_ne_true (is_in y.number (work_outcomes work work.last)) (λ h. two.not_last (two.one_atom ∙ found-atom work ok.numbers_rise work.last y.number y two.second h))))
 
-  one_more : length new.nodes ≡ length work.nodes + 1
-  one_more = length-append work.nodes (node ∷ [])
-
-  -- what is asked of the outcomes under each node is met where nodes are added
-  each_base : (P : WorkOutcome → ℕ → Type 0) → ((o : ℕ) → P y o → P x o) → ((o : ℕ) → P x o → P joined o) → All (λ z. EachBase (P z) work.nodes z.node) work.outcomes → All (λ z. EachBase (P z) new.nodes z.node) new.outcomes
-  each_base P q r h = each_left (λ z. EachBase (P z) new.nodes z.node) here there
-    where
-      there : All (λ z. EachBase (P z) new.nodes z.node) work.outcomes
-      there k d l = (EachBase-append (P (slice_index_or work.outcomes k d)) work.nodes (node ∷ []) (slice_index_or work.outcomes k d).node (ok.nodes_there k d l)).1 (h k d l)
-
-      here : EachBase (P joined) new.nodes (length work.nodes)
-      here = (EachBase-newest (P joined) work.nodes node).1 (
-        EachBase-weaker (P x) (P joined) r work.nodes x.node (at_first (λ z. EachBase (P z) work.nodes z.node) h),
-        EachBase-weaker (P y) (P joined) (λ o m. r o (q o m)) work.nodes y.node (at_second (λ z. EachBase (P z) work.nodes z.node) h),
-      )
-
   merged_work : IsWork new
-  merged_work = record {
-    form = form;
-    numbers_rise = rise;
-    own_atom = each_left (λ z. IsTrue (is_in z.atom before.atoms)) (at_first (λ z. IsTrue (is_in z.atom before.atoms)) ok.own_atom) ok.own_atom;
-    numbers_used = each_left (λ z. z.number < work.numbers) (at_first (λ z. z.number < work.numbers) ok.numbers_used) ok.numbers_used;
-    targets_fit = each_left (λ z. length z.targets ≡ work.agents) (at_first (λ z. length z.targets ≡ work.agents) ok.targets_fit) ok.targets_fit;
-    nodes = IsNodeList-append work.nodes (node ∷ []) ok.nodes (All-cons Older node [] older (All-nil Older));
-    nodes_there = each_left (λ z. z.node < length new.nodes) (omega (arith, one_more))
-        (All-weaker (λ z. z.node < length work.nodes) (λ z. z.node < length new.nodes) (λ z h. omega (arith, h, one_more)) work.outcomes ok.nodes_there);
-    named = ok.named ∙ ap length finals;
-    bases_there = each_base (λ z o. o < length work.bases) (λ o h. h) (λ o h. h) ok.bases_there;
-    bases_within = each_base (λ z o. IsTrue (all_in (slice_index_or work.bases o []) (work_parties work z.atom)))
-        (λ o h. subst (λ n. IsTrue (all_in (slice_index_or work.bases o []) (work_parties work n))) (sym two.one_atom) h) (λ o h. h) ok.bases_within;
-  }
+  merged_work = edited_work work (node ∷ []) work.numbers new.outcomes ok further rise some (sym finals)
+      (each_left (IsOutcomeOf new) one (All-weaker (IsOutcomeOf work) (IsOutcomeOf new) (outcome_kept work (node ∷ []) work.numbers new.outcomes ok (omega arith)) work.outcomes each))
     where
-      Older : PlainNode → Type 0
-      Older z = All (λ child. child < length work.nodes) (children z)
+      each : All (IsOutcomeOf work) work.outcomes
+      each = outcomes_of_work work ok
 
-      older : Older node
-      older = All-cons (λ child. child < length work.nodes) x.node (y.node ∷ []) (at_first (λ z. z.node < length work.nodes) ok.nodes_there)
-          (All-cons (λ child. child < length work.nodes) y.node [] (at_second (λ z. z.node < length work.nodes) ok.nodes_there) (All-nil (λ child. child < length work.nodes)))
+      Older : ℕ → Type 0
+      Older child = child < length work.nodes
+
+      further : AreFurther work (node ∷ [])
+      further = record {
+        older = All-cons (λ z. All Older (children z)) node [] (All-cons Older x.node (y.node ∷ []) (at_first (IsOutcomeOf work) each).there (All-cons Older y.node [] (at_second (IsOutcomeOf work) each).there (All-nil Older)))
+            (All-nil (λ z. All Older (children z)));
+        read = AllBases_one (λ o. o < length work.bases) node (tt, tt);
+      }
+
+      one : IsOutcomeOf new joined
+      one = outcome_renewed work (node ∷ []) work.numbers new.outcomes ok x x.number (length work.nodes) (united x.passed y.passed) (at_first (IsOutcomeOf work) each) (at_first (IsOutcomeOf work) each).used
+          (omega (arith, length-append work.nodes (node ∷ [])))
+          ((EachBase-newest (IsWithin work x.atom) work.nodes node).1 (
+            (at_first (IsOutcomeOf work) each).within,
+            subst (λ n. EachBase (IsWithin work n) work.nodes y.node) (sym two.one_atom) (at_second (IsOutcomeOf work) each).within,
+          ))
 
   -- ---- what occurs
 
@@ -348,30 +299,38 @@ module _ (work : PlainWork) (x y : WorkOutcome) (ok : IsWork work) (two : Merges
       Sound-same before behind Anywhere Anywhere same_atoms tt tt (λ from to step p h. tt) (λ from to step p h. tt) led led-back,
       Sound-same behind before Anywhere Anywhere (SameAtoms-turned before behind same_atoms) tt tt (λ from to step p h. tt) (λ from to step p h. tt) led-back led,
     );
+    names = refl;
+    bases = refl;
     finals = finals;
-    runs = λ test f d e h. (
-      Runs-same before (ByWork test work) behind (ByWork test new) Anywhere same_atoms ok.form (work-deterministic work) form tt (λ from to step p q. tt) (reached test) f
+    runs = λ sizes test f d e _ _ h. (
+      Runs-same before (ByWork test work) behind (ByWork test new) Anywhere same_atoms ok.form (work-deterministic work) merged_work.form tt (λ from to step p q. tt) (reached test) f
           (λ k. subst (λ xs. IsTrue (is_in f xs)) finals h) (λ c b. (final_kept test f c b h).0) d e,
-      Runs-same behind (ByWork test new) before (ByWork test work) Anywhere (SameAtoms-turned before behind same_atoms) form (work-deterministic new) ok.form tt (λ from to step p q. tt) (reached-back test) f
+      Runs-same behind (ByWork test new) before (ByWork test work) Anywhere (SameAtoms-turned before behind same_atoms) merged_work.form (work-deterministic new) ok.form tt (λ from to step p q. tt) (reached-back test) f
           (λ k. h) (λ c b. (final_kept test f c b h).1) d e,
     );
   }
 
--- where a merge is allowed, two outcomes are found, and it is the merge of these
-pub merging_pair : (work : PlainWork) (o1 o2 : ℕ) → IsTrue (can_merge work o1 o2) →
-    (x : WorkOutcome) × (y : WorkOutcome) × (outcome_at work o1 ≡ Some x) × (outcome_at work o2 ≡ Some y) × Merges work x y
-merging_pair work o1 o2 guard =
-    let p = and_parts (nat_lt o1 o2) (merges work (outcome_at work o1) (outcome_at work o2)) guard in
-    merges_parts work o1 o2 (outcome_at work o1) (outcome_at work o2) (ltb-true o1 o2 p.0) refl refl p.1
+-- A merge that is allowed leaves a work, and keeps.
+pub merged_is : (work : PlainWork) (x y : WorkOutcome) → IsWork work → outcome_at work x.number ≡ Some x → outcome_at work y.number ≡ Some y → IsTrue (merges work x y) → IsWork (merged work x y) × Keeps work (merged work x y)
+merged_is work x y ok first second h =
+    let two = merges_parts work x y first second h in
+    (merged_work work x y ok two, merged_keeps work x y ok two)
 
-pub merged-pair : (work : PlainWork) (o1 o2 : ℕ) (x y : WorkOutcome) → outcome_at work o1 ≡ Some x → outcome_at work o2 ≡ Some y → merged work o1 o2 ≡ merged_of work x y
+-- the work after a merge of two outcomes that are found
+pub merged-pair : (work : PlainWork) (o1 o2 : ℕ) (x y : WorkOutcome) → outcome_at work o1 ≡ Some x → outcome_at work o2 ≡ Some y → after_use work (Merge o1 o2) ≡ merged work x y
 merged-pair work o1 o2 x y e k =
-    ap (λ f. option_map_or (λ z. option_map_or (λ w. merged_of work z w) (outcome_at work o2) work) f work) e
-    ∙ ap (λ g. option_map_or (λ w. merged_of work x w) g work) k
+    ap (λ f. option_map_or (λ z. option_map_or (merged work z) (outcome_at work o2) work) f work) e
+    ∙ ap (λ g. option_map_or (merged work x) g work) k
 
--- An allowed merge leaves a work, and keeps soundness and what the runs relate.
+-- it is allowed where they merge
+pub allowed-pair : (work : PlainWork) (o1 o2 : ℕ) (x y : WorkOutcome) → outcome_at work o1 ≡ Some x → outcome_at work o2 ≡ Some y → allows work (Merge o1 o2) ≡ merges work x y
+allowed-pair work o1 o2 x y e k =
+    ap (λ f. option_map_or (λ z. option_map_or (merges work z) (outcome_at work o2) false) f false) e
+    ∙ ap (λ g. option_map_or (merges work x) g false) k
+
 pub merging : MergingKeeps
-merging work o1 o2 ok guard =
-    let k = merging_pair work o1 o2 guard in
+merging o1 o2 work ok allowed =
+    let one = allowed_at (λ z. option_map_or (merges work z) (outcome_at work o2) false) (outcome_at work o1) allowed in
+    let two = allowed_at (merges work one.0) (outcome_at work o2) one.2 in
     let P : PlainWork → Type 0 = λ w. IsWork w × Keeps work w in
-    subst P (sym (merged-pair work o1 o2 k.0 k.1 k.2 k.3)) (merged_work work k.0 k.1 ok k.4, merged_keeps work k.0 k.1 ok k.4)
+    subst P (sym (merged-pair work o1 o2 one.0 two.0 one.1 two.1)) (merged_is work one.0 two.0 ok (found_itself work o1 one.0 one.1) (found_itself work o2 two.0 two.1) two.2)

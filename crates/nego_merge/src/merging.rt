@@ -1,5 +1,5 @@
 //! When two outcomes may be merged, and the merge.
-ghost use Rattle.std.specs.Prelude.{◌≡◌, ◌<◌, false, IsTrue, IfSome, IfNone, Some, is_some};
+ghost use Rattle.std.specs.Prelude.{◌≡◌, ◌<◌, IsTrue, IfSome, Some, is_some};
 ghost use Rattle.nego_expr.specs.Work.{IsWork, outcome_at};
 ghost use Rattle.nego_expr.specs.Use.{Merge, allows, merged, merges};
 ghost use Rattle.nego_expr.specs.Made.{IsMade};
@@ -21,8 +21,7 @@ fn merging_pair(w: &Work, o1: OutcomeId, o2: OutcomeId) -> Option<(&Outcome, &Ou
     requires work { IsWork w.now.plain }
     ensures first { IfSome result (λ pair. outcome_at w.now.plain o1.0 ≡ Some (plain_outcome pair.0.now)) }
     ensures second { IfSome result (λ pair. outcome_at w.now.plain o2.0 ≡ Some (plain_outcome pair.1.now)) }
-    ensures merges { IfSome result (λ pair. IsTrue (merges w.now.plain (plain_outcome pair.0.now) (plain_outcome pair.1.now))) }
-    ensures none { IfNone result (allows w.now.plain (Merge o1.0 o2.0) ≡ false) }
+    ensures allowed { is_some result ≡ allows w.now.plain (Merge o1.0 o2.0) }
 {
     let x = w.outcome(o1)?;
     let y = w.outcome(o2)?;
@@ -70,6 +69,6 @@ fn join(w: &mut Work, x: Outcome, y: Outcome)
     ensures { w.new.plain ≡ merged w.old.plain (plain_outcome x) (plain_outcome y) }
 {
     let node = w.add_node(Node::Join(x.node, y.node));
-    w.set_outcome(x.number, x.targets, node, x.passed.union(y.passed));
     w.drop_outcome(y.number);
+    w.set_outcome(x.number, x.targets, node, x.passed.union(y.passed));
 }
