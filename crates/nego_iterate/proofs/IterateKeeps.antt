@@ -1,18 +1,17 @@
 -- An iteration leaves a work, and keeps soundness and what the runs relate.
-use Rattle.std.proofs.Common.{◌≡◌, ◌≢◌, ◌↔◌, ⊎_elim, ℕ, ◌+◌, ◌<◌, Bool, true, false, not, ◌==◌, ◌&&◌, List, [], ◌∷◌, ◌++◌, length, slice_get, slice_index_or, nat_lt, Option, Some, None, IsTrue, refl, sym, subst, ap, ◌∙◌, arith, ne_eqb, eqb-true, append_assoc}
+use Rattle.std.proofs.Common.{◌≡◌, ◌≢◌, ◌↔◌, ⊎_elim, ℕ, ◌+◌, ◌<◌, Bool, false, not, ◌==◌, ◌&&◌, List, [], ◌∷◌, ◌++◌, length, slice_get, nat_lt, Option, Some, None, IsTrue, refl, sym, subst, ap, ◌∙◌, arith, ne_eqb, eqb-true, append_assoc}
 use Rattle.std.proofs.lemmas.Bool.{and_parts, and_from, cases_eq, eqb-false, false≢true, not-true, not_from_false, ltb-true, false_from_ne_true}
-use Rattle.std.proofs.lemmas.Option.{slice_get_within}
 use Rattle.std.proofs.lemmas.List.{length-append, length-map}
-use Rattle.std.proofs.lemmas.List.Elements.{All-nil, All-cons, All-filter, All-weaker, filter_passes}
-use Rattle.std.specs.List.{All, list_all}
+use Rattle.std.proofs.lemmas.List.Elements.{All-nil, All-cons, All-weaker}
+use Rattle.std.specs.List.{All}
 use Rattle.std.specs.Option.{option_map_or, option_to_list}
-use Rattle.nego_base.specs.Members.{is_in, all_in, without_member, IsRising}
-use Rattle.nego_model.specs.Negotiation.{Negotiation, IsNegotiation, IsOutcome}
+use Rattle.nego_base.specs.Members.{is_in, without_member, IsRising}
+use Rattle.nego_model.specs.Negotiation.{Negotiation, IsOutcome}
 use Rattle.nego_model.specs.Joining.{RelationTest, By}
-use Rattle.nego_model.specs.Expression.{PlainNode, Then, Star, IsNodeList, IsPath, Means, EachBase, children}
+use Rattle.nego_model.specs.Expression.{PlainNode, Then, Star, IsPath, Means, children}
 use Rattle.nego_base.proofs.Members.{all_at, is_in-without, rises-without, without-other, length-without}
 use Rattle.nego_model.proofs.expressions.Bases.{AllBases_one}
-use Rattle.nego_model.proofs.expressions.Nodes.{IsPath-wider, Means-newest, Means-append, EachBase-newest, EachBase-weaker}
+use Rattle.nego_model.proofs.expressions.Nodes.{IsPath-wider, Means-newest, Means-append, EachBase-newest}
 use Rattle.nego_expr.specs.Work.{WorkOutcome, PlainWork, outcome_at, outcomes_at, work_parties, work_outcomes, sent_to, negotiation_of_work, ByWork, IsWork}
 use Rattle.nego_expr.specs.Use.{Iterate, same_target, sends_all, iterates, iterated, after_use}
 use Rattle.nego_expr.specs.Edits.{nodes_then, without_outcome}
@@ -20,13 +19,13 @@ use Rattle.nego_expr.specs.Keeps.{Keeps}
 use Rattle.nego_expr.proofs.Alive.{ByWork-found}
 use Rattle.nego_expr.proofs.EditCalls.{allowed_at, found_itself}
 use Rattle.nego_expr.proofs.EditedWorks.{IsWithin, IsOutcomeOf, AreFurther, edited, outcomes_of_work, edited_work, outcome_kept, then_each_work}
-use Rattle.nego_expr.proofs.AddedNodes.{IsNodeList-append, EachBase-append, EachBase-added, ByWork-kept, ByWork-added, length-nodes_then, node_then, nodes_then-older}
-use Rattle.nego_expr.proofs.WorkEdits.{numbers_of, with_node, All-at_place, All-found, found-number, filter-swap, rises-passing, numbers-without_outcome, passing-without_outcome, found-without_other, All-without_outcome}
-use Rattle.nego_expr.proofs.WorkForm.{OutcomeFits, AtomsFit, AtomsFit_from, outcome_found, found-atom, found_outcome, next-found, work-deterministic, negotiation_from_fits, fits_from_work}
+use Rattle.nego_expr.proofs.AddedNodes.{ByWork-kept, ByWork-added, length-nodes_then, node_then}
+use Rattle.nego_expr.proofs.WorkEdits.{numbers_of, with_node, All-found, rises-passing, numbers-without_outcome, passing-without_outcome, found-without_other, All-without_outcome}
+use Rattle.nego_expr.proofs.WorkForm.{outcome_found, found-atom, found_outcome, next-found, work-deterministic}
 use Rattle.nego_expr.proofs.LocalWorks.{works_local}
 use Rattle.nego_iterate.specs.Law.{IteratingKeeps}
 use Rattle.nego_iterate.proofs.Iterates.{Iterates}
-use Rattle.nego_expr.proofs.NodesAt.{of_atom, passing-with_nodes_at, numbers-with_nodes_at, found-nodes_at, found-nodes_other, All-with_nodes_at}
+use Rattle.nego_expr.proofs.NodesAt.{of_atom, passing-with_nodes_at, found-nodes_at, found-nodes_other}
 use Rattle.nego_iterate.proofs.Repeating.{iterates_sound, iterates_runs}
 
 -- an alive outcome of an atom that isn't the last sends every party back, and the atom has another one
@@ -293,6 +292,27 @@ pub iterated_is : (work : PlainWork) (x : WorkOutcome) → IsWork work → outco
 iterated_is work x ok found h =
     let may = may_repeat work x found h in
     (iterated_work work x ok may, iterated_keeps work x ok may)
+
+-- ---- how many nodes there are
+
+module _ (work : PlainWork) (x : WorkOutcome) (ok : IsWork work) (found : outcome_at work x.number ≡ Some x) where
+  -- without the outcome its atom has one outcome fewer
+  pub one_fewer : length (of_atom x.atom (without_outcome x.number work.outcomes)) + 1 ≡ length (outcomes_at work x.atom)
+  one_fewer =
+      let left = length-map (of_atom x.atom (without_outcome x.number work.outcomes)) (λ z. z.number) in
+      let all = length-map (outcomes_at work x.atom) (λ z. z.number) in
+      let same = ap length (passing-without_outcome (λ z. z.atom == x.atom) x.number work.outcomes) in
+      let fewer = length-without 0 x.number (work_outcomes work x.atom) (rises-passing (λ z. z.atom == x.atom) 0 work.outcomes ok.numbers_rise) (found_outcome work ok.numbers_rise x.atom x.number x found refl) in
+      omega (arith, left, all, same, fewer)
+
+  -- an iteration adds a node for each outcome of the atom
+  pub nodes-iterated : length (iterated work x).nodes ≡ length work.nodes + length (outcomes_at work x.atom)
+  nodes-iterated =
+      let more = length-append (work.nodes ++ Star x.node ∷ []) (nodes_then (length work.nodes) (of_atom x.atom (without_outcome x.number work.outcomes))) in
+      let one = length-append work.nodes (Star x.node ∷ []) in
+      let each = length-nodes_then (length work.nodes) (of_atom x.atom (without_outcome x.number work.outcomes)) in
+      let count = one_fewer in
+      omega (arith, more, one, each, count)
 
 -- the work after an iteration of an outcome that is found
 pub iterated-one : (work : PlainWork) (o : ℕ) (x : WorkOutcome) → outcome_at work o ≡ Some x → after_use work (Iterate o) ≡ iterated work x

@@ -1,5 +1,5 @@
 //! When an outcome may be iterated, and the iteration.
-ghost use Rattle.std.specs.Prelude.{◌≡◌, ◌≤◌, false, IsTrue, IfSome, IfNone, Some, length};
+ghost use Rattle.std.specs.Prelude.{◌≡◌, ◌≤◌, IfSome, Some, is_some, length};
 ghost use Rattle.nego_expr.specs.Work.{IsWork, outcome_at, outcomes_at};
 ghost use Rattle.nego_expr.specs.Use.{Iterate, allows, iterated, iterates};
 ghost use Rattle.nego_expr.specs.Made.{IsMade};
@@ -21,8 +21,7 @@ pub fn can_iterate(w: &Work, o: OutcomeId) -> bool
 fn iterating_outcome(w: &Work, o: OutcomeId) -> Option<&Outcome>
     requires work { IsWork w.now.plain }
     ensures found { IfSome result (λ x. outcome_at w.now.plain o.0 ≡ Some (plain_outcome x.now)) }
-    ensures iterates { IfSome result (λ x. IsTrue (iterates w.now.plain (plain_outcome x.now))) }
-    ensures none { IfNone result (allows w.now.plain (Iterate o.0) ≡ false) }
+    ensures allowed { is_some result ≡ allows w.now.plain (Iterate o.0) }
 {
     let x = w.outcome(o)?;
     if !iterates(w, x) {

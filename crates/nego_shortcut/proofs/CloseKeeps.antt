@@ -30,6 +30,19 @@ use Rattle.nego_expr.proofs.WorkEdits.{numbers_of, with_node, All-at_place, foun
 use Rattle.nego_expr.proofs.WorkForm.{OutcomeFits, AtomsFit, outcome_found, next-found, work-deterministic, negotiation_from_fits, fits_from_work}
 use Rattle.nego_shortcut.specs.Law.{ClosingKeeps}
 
+-- where one passes a test and is found, it is the only one
+only_found : (test : WorkOutcome → Bool) (zs : List WorkOutcome) (x : WorkOutcome) → find test zs ≡ Some x → length (filter test zs) ≡ 1 → filter test zs ≡ x ∷ []
+only_found test [] x h l = absurd (none-some x h)
+only_found test (z ∷ zs) x h l = go (test z) refl h l
+  where
+    single : (ys : List WorkOutcome) → suc (length ys) ≡ 1 → ys ≡ []
+    single [] e = refl
+    single (y ∷ ys) e = absurd (let no_more : ⊥ = omega (arith, e) in no_more)
+
+    go : (b : Bool) → test z ≡ b → find test (z ∷ zs) ≡ Some x → length (cond b (z ∷ filter test zs) (filter test zs)) ≡ 1 → cond b (z ∷ filter test zs) (filter test zs) ≡ x ∷ []
+    go true e f m = ?
+    go false e f m = ?
+
 -- exactly the first and the last atom are left, and the first has one outcome, which sends everyone to the last
 pub record Closes (work : PlainWork) (x : WorkOutcome) : Type 0 where
   pub two : length work.atoms ≡ 2
@@ -41,17 +54,6 @@ pub record Closes (work : PlainWork) (x : WorkOutcome) : Type 0 where
 target_is : (target : Option ℕ) (n : ℕ) → IsTrue (same_target target (Some n)) → target ≡ Some n
 target_is None n h = absurd (false≢true h)
 target_is (Some m) n h = ap Some (eqb-true m n h)
-
--- what the guard says of the first atom's outcomes
-one_sends : (count n : ℕ) (outcomes : List WorkOutcome) → IsTrue (one_sends_all count n outcomes) → (x : WorkOutcome) × (outcomes ≡ x ∷ []) × ((a : ℕ) → a < count → sent_to x a ≡ Some n)
-one_sends count n [] h = absurd (false≢true h)
-one_sends count n (x ∷ []) h = (
-  x,
-  refl,
-  λ a l.
-      target_is (sent_to x a) n (all_at (λ b. same_target (sent_to x b) (Some n)) (range_with_len 0 count) a h (is_in-range_zero a count ∙ lt-ltb a count l)),
-)
-one_sends count n (x ∷ y ∷ outcomes) h = absurd (false≢true h)
 
 -- of two numbers in a list of two, which differ, one is any third
 pub one_of_two : (xs : List ℕ) (a b n : ℕ) → length xs ≡ 2 → a ≢ b → IsTrue (is_in a xs) → IsTrue (is_in b xs) → IsTrue (is_in n xs) → (n ≡ a) ⊎ (n ≡ b)
@@ -73,7 +75,7 @@ one_of_two (x ∷ y ∷ []) a b n l h p q r = places (place a p) (place b q) (pl
 
 module _ (work : PlainWork) (x : WorkOutcome) (ok : IsWork work) (closes : Closes work x) where
   abbrev new : PlainWork
-  new = closed_of work x
+  new = closed work x
 
   abbrev before : Negotiation
   before = negotiation_of_work work
@@ -81,9 +83,13 @@ module _ (work : PlainWork) (x : WorkOutcome) (ok : IsWork work) (closes : Close
   abbrev behind : Negotiation
   behind = negotiation_of_work new
 
-  -- the outcomes of the last atom
+  -- the last atom alone, which is the first now
+  abbrev left : PlainWork
+  left = record (without_atom work.first work) { first = work.last }
+
+  -- its outcomes
   abbrev finals : List WorkOutcome
-  finals = outcomes_at work work.last
+  finals = of_atom work.last left.outcomes
 
   abbrev added : List PlainNode
   added = nodes_then x.node finals
@@ -106,121 +112,46 @@ module _ (work : PlainWork) (x : WorkOutcome) (ok : IsWork work) (closes : Close
   first_outcomes : work_outcomes work work.first ≡ x.number ∷ []
   first_outcomes = ap numbers_of closes.only
 
-  -- what holds of each outcome holds of each of the last atom, and each is of the last atom
-  at_last : (P : WorkOutcome → Type 0) (k : ℕ) (z : WorkOutcome) → All P work.outcomes → slice_get finals k ≡ Some z → P z
-  at_last P k z h e = All-at_place P finals k z (All-filter (λ w. w.atom == work.last) P work.outcomes h) e
-
-  last_atom : (k : ℕ) (z : WorkOutcome) → slice_get finals k ≡ Some z → z.atom ≡ work.last
-  last_atom k z e = eqb-true z.atom work.last (All-at_place (λ w. (w.atom == work.last) ≡ true) finals k z (filter_passes (λ w. w.atom == work.last) work.outcomes) e)
-
   -- ---- the work that is left
 
+  other : work.last ≢ work.first
+  other e = closes.apart (sym e)
+
+  -- an atom is the first or the last
+  first_or_last : (n : ℕ) → IsTrue (is_in n before.atoms) → (n ≡ work.first) ⊎ (n ≡ work.last)
+  first_or_last n h = one_of_two before.atoms work.first work.last n (length-map work.atoms (λ atom. atom.number) ∙ closes.two) closes.apart ok.form.first_there ok.form.last_there h
+
+  -- an outcome of the last atom sends nobody
+  unled : All (λ z. z.atom ≢ work.first → (a : ℕ) → sent_to z a ≢ Some work.first) work.outcomes
+  unled k d l = λ apart a e.
+      let h : OutcomeFits work (slice_index_or work.outcomes k d) = fits_from_work work ok k d l in
+      let at_last : (slice_index_or work.outcomes k d).atom ≡ work.last = ⊎_elim (λ q. absurd (apart q)) (λ q. q) (first_or_last (slice_index_or work.outcomes k d).atom h.there) in
+      none-some work.first (sym (h.ends at_last a) ∙ e)
+
+  left_work : IsWork left
+  left_work = without_atom_work work work.first work.last ok closes.apart other ok.form.last_there ok.form.all_end unled
+
   -- the last atom is left alone
-  atom-left : (n : ℕ) → IsTrue (is_in n behind.atoms) → (n ≡ work.last) × IsTrue (is_in n before.atoms)
+  atom-left : (n : ℕ) → IsTrue (is_in n behind.atoms) → n ≡ work.last
   atom-left n h =
-      let k = and_parts (n == work.last) (is_in n before.atoms) (sym (is_in-filter (λ m. m == work.last) n before.atoms) ∙ subst (λ xs. IsTrue (is_in n xs)) (atoms-filter (λ m. m == work.last) work.atoms) h) in
-      (eqb-true n work.last k.0, k.1)
-
-  last_left : IsTrue (is_in work.last behind.atoms)
-  last_left = subst (λ xs. IsTrue (is_in work.last xs)) (sym (atoms-filter (λ m. m == work.last) work.atoms))
-      (is_in-filter (λ m. m == work.last) work.last before.atoms ∙ and_from (work.last == work.last) (is_in work.last before.atoms) (eq-eqb work.last work.last refl) ok.form.last_there)
-
-  -- it has its parties
-  parties-left : (n : ℕ) → n ≡ work.last → behind.parties n ≡ before.parties n
-  parties-left n e = parties-filter (λ m. m == work.last) work.atoms n (eq-eqb n work.last e)
-
-  everyone : (a : ℕ) → a < work.agents → IsTrue (is_in a (behind.parties work.last))
-  everyone a h = subst (λ xs. IsTrue (is_in a xs)) (sym (parties-left work.last refl)) (ok.form.all_end a h)
-
-  atoms_fit : AtomsFit behind
-  atoms_fit = record {
-    first_there = last_left;
-    last_there = last_left;
-    atoms_rise = subst IsRising (sym (atoms-filter (λ m. m == work.last) work.atoms)) (rises-filter (λ m. m == work.last) 0 before.atoms ok.form.atoms_rise);
-    parties_rise = λ n h. let k = atom-left n h in subst IsRising (sym (parties-left n k.0)) (ok.form.parties_rise n k.1);
-    party_below = λ n a h p. let k = atom-left n h in ok.form.party_below n a k.1 (subst (λ xs. IsTrue (is_in a xs)) (parties-left n k.0) p);
-    some_party = λ n h e. let k = atom-left n h in ok.form.some_party n k.1 (sym (parties-left n k.0) ∙ e);
-    all_begin = everyone;
-    all_end = everyone;
-  }
-
-  -- its outcomes send nobody
-  fits-left : (i : ℕ) (z : WorkOutcome) → z.atom ≡ work.last → OutcomeFits work z → OutcomeFits new (with_node i z)
-  fits-left i z e h = record {
-    there = subst (λ n. IsTrue (is_in n behind.atoms)) (sym e) last_left;
-    ends = λ l a. h.ends e a;
-    leads = λ l a p. absurd (l e);
-    stays = λ a. inr (h.ends e a);
-    sends = λ a m q. absurd (let k = h.ends e a in let no_more : ⊥ = cc in no_more);
-  }
-
-  -- what holds of each outcome of the last atom with its new node holds of each that is left
-  each_left : (P : WorkOutcome → Type 0) → ((k : ℕ) (z : WorkOutcome) → slice_get finals k ≡ Some z → P (with_node (length work.nodes + k) z)) → All P new.outcomes
-  each_left P h = All-with_nodes_from P (length work.nodes) finals h
-
-  rise : IsRising (numbers_of new.outcomes)
-  rise = subst IsRising (sym (numbers-with_nodes_from (length work.nodes) finals)) (rises-passing (λ z. z.atom == work.last) 0 work.outcomes ok.numbers_rise)
-
-  -- the last atom keeps its outcomes
-  same_finals : work_outcomes work work.last ≡ work_outcomes new new.last
-  same_finals = sym (passing-with_nodes_from (λ z. z.atom == work.last) (λ i z. refl) (length work.nodes) finals ∙ ap numbers_of (filter-filter (λ z. z.atom == work.last) work.outcomes))
-
-  form : IsNegotiation behind
-  form = negotiation_from_fits new atoms_fit rise
-      (each_left (OutcomeFits new) (λ k z e. fits-left (length work.nodes + k) z (last_atom k z e) (at_last (OutcomeFits work) k z (fits_from_work work ok) e)))
-      (λ n h e. ok.form.some_outcome work.last ok.form.last_there (same_finals ∙ subst (λ m. work_outcomes new m ≡ []) (atom-left n h).0 e))
+      let k = is_in-left work work.first work.last ok closes.apart other ok.form.last_there ok.form.all_end unled n h in
+      ⊎_elim (λ e. absurd (k.0 e)) (λ e. e) (first_or_last n k.1)
 
   first_older : x.node < length work.nodes
   first_older = at_first (λ z. z.node < length work.nodes) ok.nodes_there
 
-  last_older : (k : ℕ) (z : WorkOutcome) → slice_get finals k ≡ Some z → z.node < length work.nodes
-  last_older k z e = at_last (λ w. w.node < length work.nodes) k z ok.nodes_there e
-
-  then_older : (k : ℕ) (z : WorkOutcome) → slice_get finals k ≡ Some z → All (λ child. child < length work.nodes) (children (Then x.node z.node))
-  then_older k z e =
-      All-cons (λ child. child < length work.nodes) x.node (z.node ∷ []) first_older
-      (All-cons (λ child. child < length work.nodes) z.node [] (last_older k z e) (All-nil (λ child. child < length work.nodes)))
-
-  nodes_formed : IsNodeList new.nodes
-  nodes_formed = IsNodeList-append work.nodes added ok.nodes
-      (nodes_then-older x.node (length work.nodes) finals first_older (All-filter (λ z. z.atom == work.last) (λ z. z.node < length work.nodes) work.outcomes ok.nodes_there))
-
-  -- what is asked of the outcomes under each node is met under the new ones
-  each_base : (P Q : WorkOutcome → ℕ → Type 0) → All (λ z. EachBase (P z) work.nodes z.node) work.outcomes → ((z : WorkOutcome) (o : ℕ) → z.atom ≡ work.last → P z o → Q z o) →
-      ((z : WorkOutcome) (o : ℕ) → z.atom ≡ work.last → P x o → Q z o) → ((i : ℕ) (z : WorkOutcome) (o : ℕ) → Q z o → Q (with_node i z) o) → All (λ z. EachBase (Q z) new.nodes z.node) new.outcomes
-  each_base P Q h own first moved = each_left (λ z. EachBase (Q z) new.nodes z.node) (λ k z e.
-      EachBase-weaker (Q z) (Q (with_node (length work.nodes + k) z)) (moved (length work.nodes + k) z) new.nodes (length work.nodes + k)
-      (EachBase-added (Q z) work.nodes added k (Then x.node z.node) (then_older k z e) (node_then x.node finals k z e) (
-        EachBase-weaker (P x) (Q z) (λ o. first z o (last_atom k z e)) work.nodes x.node (at_first (λ w. EachBase (P w) work.nodes w.node) h),
-        EachBase-weaker (P z) (Q z) (λ o. own z o (last_atom k z e)) work.nodes z.node (at_last (λ w. EachBase (P w) work.nodes w.node) k z h e),
-      )))
-
-  -- who is a party of an atom is a party of the last
-  within_last : (z : WorkOutcome) (agents : List ℕ) → z.atom ≡ work.last → IsTrue (all_in agents (work_parties work x.atom)) → IsTrue (all_in agents (work_parties new z.atom))
-  within_last z agents e h = all_in-members agents (work_parties new z.atom) (λ a m.
-      subst (λ n. IsTrue (is_in a (work_parties new n))) (sym e)
-      (everyone a (ok.form.party_below x.atom a (at_first (λ w. IsTrue (is_in w.atom before.atoms)) ok.own_atom) (all_in-member a agents (work_parties work x.atom) h m))))
-
   closed_work : IsWork new
-  closed_work = record {
-    form = form;
-    numbers_rise = rise;
-    own_atom = each_left (λ z. IsTrue (is_in z.atom behind.atoms)) (λ k z e. subst (λ n. IsTrue (is_in n behind.atoms)) (sym (last_atom k z e)) last_left);
-    numbers_used = each_left (λ z. z.number < work.numbers) (λ k z e. at_last (λ w. w.number < work.numbers) k z ok.numbers_used e);
-    targets_fit = each_left (λ z. length z.targets ≡ work.agents) (λ k z e. at_last (λ w. length w.targets ≡ work.agents) k z ok.targets_fit e);
-    nodes = nodes_formed;
-    nodes_there = each_left (λ z. z.node < length new.nodes) (λ k z e.
-        let l = slice_get_within finals k z e in
-        let m = length-append work.nodes added in
-        let c = length-nodes_then x.node finals in
-        omega (arith, l, m, c));
-    named = ok.named ∙ ap length same_finals;
-    bases_there = each_base (λ z o. o < length work.bases) (λ z o. o < length work.bases) ok.bases_there (λ z o e h. h) (λ z o e h. h) (λ i z o h. h);
-    bases_within = each_base (λ z o. IsTrue (all_in (slice_index_or work.bases o []) (work_parties work z.atom))) (λ z o. IsTrue (all_in (slice_index_or work.bases o []) (work_parties new z.atom))) ok.bases_within
-        (λ z o e h. subst (λ xs. IsTrue (all_in (slice_index_or work.bases o []) xs)) (sym (parties-left z.atom e)) h)
-        (λ z o e h. within_last z (slice_index_or work.bases o []) e h)
-        (λ i z o h. h);
-  }
+  closed_work = then_each_work left x.node work.last left_work first_older (EachBase-weaker (IsWithin work x.atom) (IsWithin left work.last) within work.nodes x.node (at_first (IsOutcomeOf work) (outcomes_of_work work ok)).within)
+    where
+      -- who is a party of an atom is a party of the last
+      within : (o : ℕ) → IsWithin work x.atom o → IsWithin left work.last o
+      within o h = all_in-members (slice_index_or work.bases o []) (work_parties left work.last) (λ a m.
+          left_work.form.all_end a (ok.form.party_below x.atom a (at_first (λ w. IsTrue (is_in w.atom before.atoms)) ok.own_atom) (all_in-member a (slice_index_or work.bases o []) (work_parties work x.atom) h m)))
+
+  -- the last atom keeps its outcomes
+  same_finals : work_outcomes work work.last ≡ work_outcomes new new.last
+  same_finals = sym (passing-with_nodes_at (λ z. z.atom == work.last) (λ i z. refl) work.last (length work.nodes) left.outcomes
+      ∙ outcomes-left work work.first work.last ok closes.apart other ok.form.last_there ok.form.all_end unled work.last other)
 
   -- ---- what occurs before the closing
 
@@ -280,7 +211,7 @@ module _ (work : PlainWork) (x : WorkOutcome) (ok : IsWork work) (closes : Close
       alive n h = ⊎_elim
           (λ e. subst Enabled (sym e) (opening, Leads-itself before opening, all_ready-enables before ok.form (work.first ∷ []) work.first ok.form.first_there (is_in-head work.first [])))
           (λ e. subst Enabled (sym e) (gathered, opening_leads, all_ready-enables before ok.form (work.last ∷ []) work.last ok.form.last_there (is_in-head work.last [])))
-          (one_of_two before.atoms work.first work.last n (length-map work.atoms (λ atom. atom.number) ∙ closes.two) closes.apart ok.form.first_there ok.form.last_there h)
+          (first_or_last n h)
 
       completes : (m : PlainMarking) → Occurs m → Leads before m (final_marking before)
       completes m (inl e) = subst (λ from. Leads before from (final_marking before)) (sym e) (Leads_through before opening gathered (final_marking before) opening_leads gathered_leads)
@@ -315,18 +246,19 @@ module _ (work : PlainWork) (x : WorkOutcome) (ok : IsWork work) (closes : Close
   -- an outcome relates now what the first atom's outcome and then it did
   related : (test : RelationTest) (f d e : ℕ) → IsTrue (is_in f (work_outcomes work work.last)) → ByWork test new f d e ↔ ((c : ℕ) × ByWork test work x.number d c × ByWork test work f c e)
   related test f d e h = (
-    λ r. let m = a.0 r in (m.0, (bx m.0).1 ((older x.node d m.0 first_older).0 m.1), (bz m.0).1 ((older z.0.node m.0 e (last_older p.0 z.0 p.1)).0 m.2)),
-    λ m. a.1 (m.0, (older x.node d m.0 first_older).1 ((bx m.0).0 m.1), (older z.0.node m.0 e (last_older p.0 z.0 p.1)).1 ((bz m.0).0 m.2)),
+    λ r. let m = a.0 r in (m.0, (bx m.0).1 ((older x.node d m.0 first_older).0 m.1), (bz m.0).1 ((older z.0.node m.0 e z.3).0 m.2)),
+    λ m. a.1 (m.0, (older x.node d m.0 first_older).1 ((bx m.0).0 m.1), (older z.0.node m.0 e z.3).1 ((bz m.0).0 m.2)),
   )
     where
-      z : (w : WorkOutcome) × (outcome_at work f ≡ Some w) × (w.atom ≡ work.last) × Unit {0}
-      z = outcome_found work ok.numbers_rise (λ w. Unit {0}) work.last f (λ k w l. tt) h
+      z : (w : WorkOutcome) × (outcome_at work f ≡ Some w) × (w.atom ≡ work.last) × (w.node < length work.nodes)
+      z = outcome_found work ok.numbers_rise (λ w. w.node < length work.nodes) work.last f ok.nodes_there h
 
       p : (k : ℕ) × (slice_get finals k ≡ Some z.0) × (outcome_at new f ≡ Some (with_node (length work.nodes + k) z.0))
-      p = found-with_nodes_from (length work.nodes) finals f z.0 (found-passing (λ w. w.atom == work.last) work.outcomes f z.0 ok.numbers_rise z.1 (eq-eqb z.0.atom work.last z.2))
+      p = found-nodes_at work.last (length work.nodes) left.outcomes f z.0
+          (found_left work work.first work.last ok closes.apart other ok.form.last_there ok.form.all_end unled f z.0 z.1 (λ e. other (sym z.2 ∙ e))) z.2
 
       a : ByWork test new f d e ↔ ((c : ℕ) × Means (By test) new.nodes x.node d c × Means (By test) new.nodes z.0.node c e)
-      a = ByWork-added test new work.nodes added f p.0 (with_node (length work.nodes + p.0) z.0) (Then x.node z.0.node) d e nodes_formed refl p.2 refl (node_then x.node finals p.0 z.0 p.1)
+      a = ByWork-added test new work.nodes added f p.0 (with_node (length work.nodes + p.0) z.0) (Then x.node z.0.node) d e closed_work.nodes refl p.2 refl (node_then x.node finals p.0 z.0 p.1)
 
       older : (i b c : ℕ) → i < length work.nodes → Means (By test) new.nodes i b c ↔ Means (By test) work.nodes i b c
       older i b c l = Means-append (By test) work.nodes added i b c l
@@ -339,14 +271,16 @@ module _ (work : PlainWork) (x : WorkOutcome) (ok : IsWork work) (closes : Close
 
   -- behind the closing only the last atom is left
   only_last : (n : ℕ) → IsTrue (is_in n behind.atoms) → n ≡ behind.last
-  only_last n h = (atom-left n h).0
+  only_last n h = atom-left n h
 
   closed_keeps : Keeps work new
   closed_keeps = record {
-    sound = (λ s. one_atom_left_sound behind form only_last, λ s. sound_before);
+    sound = (λ s. one_atom_left_sound behind closed_work.form only_last, λ s. sound_before);
+    names = refl;
+    bases = refl;
     finals = same_finals;
-    runs = λ test f d e h.
-        let now = one_step_runs behind form only_last (ByWork test new) f d e (subst (λ xs. IsTrue (is_in f xs)) same_finals h) in
+    runs = λ sizes test f d e _ _ h.
+        let now = one_step_runs behind closed_work.form only_last (ByWork test new) f d e (subst (λ xs. IsTrue (is_in f xs)) same_finals h) in
         let r = related test f d e h in (
           λ k.
               let w = runs_pass_all_at_last before (ByWork test work) f d e ok.form (work-deterministic work) k in
@@ -357,25 +291,50 @@ module _ (work : PlainWork) (x : WorkOutcome) (ok : IsWork work) (closes : Close
         );
   }
 
--- where a closing is allowed, it is by one outcome
-pub closing_one : (work : PlainWork) → IsTrue (can_close work) → (x : WorkOutcome) × Closes work x
-closing_one work guard =
-    let p = and_parts (length work.atoms == 2) (not (work.first == work.last) && one_sends_all work.agents work.last (outcomes_at work work.first)) guard in
-    let q = and_parts (not (work.first == work.last)) (one_sends_all work.agents work.last (outcomes_at work work.first)) p.1 in
-    let k = one_sends work.agents work.last (outcomes_at work work.first) q.1 in (
-      k.0,
-      record {
-        two = eqb-true (length work.atoms) 2 p.0;
-        apart = eqb-false work.first work.last (not-true (work.first == work.last) q.0);
-        only = k.1;
-        sends = k.2;
-      },
-    )
+-- what the guard says
+pub closes_parts : (work : PlainWork) (x : WorkOutcome) → opening_outcome work ≡ Some x → IsTrue (closes work x) → Closes work x
+closes_parts work x found h = record {
+  two = eqb-true (length work.atoms) 2 p.0;
+  apart = eqb-false work.first work.last (not-true (work.first == work.last) q.0);
+  only = only_found (λ z. z.atom == work.first) work.outcomes x found (eqb-true (length (outcomes_at work work.first)) 1 r.0);
+  sends = λ a l. target_is (sent_to x a) work.last (all_at (λ b. same_target (sent_to x b) (Some work.last)) (range_with_len 0 work.agents) a r.1 (is_in-range_zero a work.agents ∙ lt-ltb a work.agents l));
+}
+  where
+    sends : Bool
+    sends = sends_all (range_with_len 0 work.agents) work.last x
 
--- An allowed closing leaves a work, and keeps soundness and what the runs relate.
+    one : Bool
+    one = length (outcomes_at work work.first) == 1
+
+    p : IsTrue (length work.atoms == 2) × IsTrue (not (work.first == work.last) && (one && sends))
+    p = and_parts (length work.atoms == 2) (not (work.first == work.last) && (one && sends)) h
+
+    q : IsTrue (not (work.first == work.last)) × IsTrue (one && sends)
+    q = and_parts (not (work.first == work.last)) (one && sends) p.1
+
+    r : IsTrue one × IsTrue sends
+    r = and_parts one sends q.1
+
+-- the work after a closing by what is found
+pub closed-one : (work : PlainWork) (x : WorkOutcome) → opening_outcome work ≡ Some x → after_use work Close ≡ closed work x
+closed-one work x e = ap (λ f. option_map_or (closed work) f work) e
+
+-- a closing adds a node for each outcome of the last atom
+pub nodes-closed : (work : PlainWork) (x : WorkOutcome) → work.first ≢ work.last → length (closed work x).nodes ≡ length work.nodes + length (outcomes_at work work.last)
+nodes-closed work x apart =
+    length-append work.nodes (nodes_then x.node left) ∙ ap (λ n. length work.nodes + n) (length-nodes_then x.node left ∙ ap length same)
+  where
+    left : List WorkOutcome
+    left = of_atom work.last (filter (λ z. not (z.atom == work.first)) work.outcomes)
+
+    same : left ≡ outcomes_at work work.last
+    same = filter-within (λ z. z.atom == work.last) (λ z. not (z.atom == work.first))
+        (λ z e. not_from_false (z.atom == work.first) (ne_eqb z.atom work.first (λ k. apart (sym k ∙ eqb-true z.atom work.last e)))) work.outcomes
+
+-- A closing that is allowed leaves a work, and keeps.
 pub closing : ClosingKeeps
-closing work ok guard =
-    let k = closing_one work guard in
+closing work ok allowed =
+    let k = allowed_at (closes work) (opening_outcome work) allowed in
+    let parts = closes_parts work k.0 k.1 k.2 in
     let P : PlainWork → Type 0 = λ w. IsWork w × Keeps work w in
-    let e : closed work ≡ closed_of work k.0 = ap (closed_by work) k.1.only in
-    subst P (sym e) (closed_work work k.0 ok k.1, closed_keeps work k.0 ok k.1)
+    subst P (sym (closed-one work k.0 k.1)) (closed_work work k.0 ok parts, closed_keeps work k.0 ok parts)
