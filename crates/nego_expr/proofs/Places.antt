@@ -1,6 +1,6 @@
 -- Places of alive outcomes in their list, by rising number: what a search finds, and what an edit at a place does.
 use Rattle.std.proofs.Common.{◌≡◌, ◌≢◌, ⊎_elim, ℕ, zero, suc, ◌+◌, ◌<◌, ◌≤◌, ◌==◌, not, cond, Bool, true, false, List, [], ◌∷◌, length, map, option_map, slice_get, get_or, set, Some, None, Result, Ok, Err, IfSome, IfNone, refl, sym, subst, ap, ap₂, ◌∙◌, arith, ne_eqb, eq-eqb}
-use Rattle.std.specs.List.{All, filter, remove}
+use Rattle.std.specs.List.{All, filter, find, remove}
 use Rattle.std.specs.List.Sorted.{IsSearchInRange, IsBinarySearchResult, IsNonDecreasingBy}
 use Rattle.std.specs.Result.{result_ok}
 use Rattle.std.specs.Ordering.{nat_cmp, ordering_index}
@@ -137,6 +137,15 @@ module _ {X : Type 0} (see : X → WorkOutcome) where
       go : (b : Bool) → map see (filter (λ y. test (see y)) xs) ≡ filter test (map see xs) →
           map see (cond b (x ∷ filter (λ y. test (see y)) xs) (filter (λ y. test (see y)) xs)) ≡ cond b (see x ∷ filter test (map see xs)) (filter test (map see xs))
       go true k = ap (◌∷◌ (see x)) k
+      go false k = k
+
+  -- the first that passes a test is seen as the first that does
+  pub find-seen : (test : WorkOutcome → Bool) (xs : List X) → option_map see (find (λ x. test (see x)) xs) ≡ find test (map see xs)
+  find-seen test [] = refl
+  find-seen test (x ∷ xs) = go (test (see x)) (find-seen test xs)
+    where
+      go : (b : Bool) → option_map see (find (λ y. test (see y)) xs) ≡ find test (map see xs) → option_map see (cond b (Some x) (find (λ y. test (see y)) xs)) ≡ cond b (Some (see x)) (find test (map see xs))
+      go true k = refl
       go false k = k
 
   -- they are as many

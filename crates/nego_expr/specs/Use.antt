@@ -31,6 +31,10 @@ send_alike agents x y = list_all (λ a. same_target (sent_to x a) (sent_to y a))
 abbrev pub sends_all : List ℕ → ℕ → WorkOutcome → Bool
 sends_all agents n x = list_all (λ a. same_target (sent_to x a) (Some n)) agents
 
+-- whether an outcome sends some agent to the atom
+abbrev pub leads_to : ℕ → WorkOutcome → Bool
+leads_to n x = list_any (λ target. same_target target (Some n)) x.targets
+
 -- ---- merging
 
 -- whether the first outcome has the lesser number, and both are of one atom, which isn't the last, and send each of its
@@ -104,7 +108,7 @@ gone_through work n x (y ∷ ys) = record work {
 
 -- whether an outcome of another atom leads to the atom
 abbrev pub is_entered : PlainWork → ℕ → Bool
-is_entered work n = list_any (λ outcome. not (outcome.atom == n) && list_any (λ target. same_target target (Some n)) outcome.targets) work.outcomes
+is_entered work n = list_any (λ outcome. not (outcome.atom == n) && leads_to n outcome) work.outcomes
 
 -- the work without an atom and its outcomes, where no outcome of another atom leads to it
 abbrev pub without_unentered : ℕ → PlainWork → PlainWork

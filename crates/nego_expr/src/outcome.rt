@@ -1,7 +1,7 @@
 //! Alive outcomes of a work.
 ghost use Rattle.std.specs.Prelude.{◌≡◌, option_map};
 ghost use Rattle.nego_expr.specs.Work.{sent_to};
-ghost use Rattle.nego_expr.specs.Use.{send_alike, sends_all};
+ghost use Rattle.nego_expr.specs.Use.{leads_to, send_alike, sends_all};
 ghost use Rattle.nego_expr.specs.WorkView.{plain_outcome};
 
 use crate::Targets;
@@ -44,6 +44,13 @@ impl Outcome {
             Some(a) => self.target(a) == Some(n) && self.sends_all(agents.without(a), n),
             None => true,
         }
+    }
+
+    /// Whether it sends some agent to the atom.
+    pub fn leads_to(&self, n: AtomId) -> bool
+        ensures { result ≡ leads_to n.0 (plain_outcome self.now) }
+    {
+        self.targets.lead_to(n)
     }
 
     /// Whether it and the other send each of the agents to the same atom.

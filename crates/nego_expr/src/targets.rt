@@ -1,6 +1,9 @@
 //! Where an outcome sends the agents.
 ghost use Rattle.std.specs.Prelude.{◌≡◌, ◌<◌, ◌≤◌, Some, None, replicate, length, slice_get, slice_index_or, slice_set, option_map};
 
+ghost use Rattle.std.specs.List.{list_any};
+ghost use Rattle.nego_expr.specs.Use.{same_target};
+
 use nego_base::{AgentId, AtomId};
 use smallvec::SmallVec;
 use std::alloc::Global;
@@ -53,6 +56,13 @@ impl Targets {
         self.entries.as_slice().get(a.0 as usize).copied().flatten()
     }
 
+    /// Whether some agent is sent to the atom.
+    pub(crate) fn lead_to(&self, n: AtomId) -> bool
+        ensures { result ≡ list_any (λ target. same_target target (Some n.0)) self.now }
+    {
+        any_is(self.entries.as_slice(), n)
+    }
+
     /// Sends the agent to the atom.
     pub fn set(&mut self, a: AgentId, n: AtomId)
         requires { a.0 < length self.old }
@@ -70,4 +80,18 @@ impl Targets {
             entries: SmallVec::from_slice(*entries.allocator(), entries.as_slice()).unwrap(),
         }
     }
+}
+
+/// Whether some target is the atom.
+fn any_is(targets: &[Option<AtomId>], n: AtomId) -> bool
+    ensures { result ≡ list_any (λ target. same_target (option_map (λ m. m.0) target) (Some n.0)) targets.now }
+{
+    targets.iter().any(|target| is_atom(*target, n))
+}
+
+/// Whether the target is the atom.
+fn is_atom(target: Option<AtomId>, n: AtomId) -> bool
+    ensures { result ≡ same_target (option_map (λ m. m.0) target) (Some n.0) }
+{
+    target == Some(n)
 }

@@ -1,47 +1,61 @@
 -- A closing keeps soundness and what the runs relate: before it, the one outcome of the first atom sends everyone to the
 -- last atom; behind it, everyone is there from the beginning.
-use Rattle.std.proofs.Common.{◌≡◌, ◌≢◌, ◌⊎◌, ◌↔◌, inl, inr, ⊎_elim, ℕ, ◌+◌, ◌<◌, true, not, ◌==◌, ◌&&◌, List, [], ◌∷◌, length, slice_get, slice_index_or, Option, Some, None, IsTrue, refl, sym, subst, ap, ◌∙◌, arith, eq-eqb, eqb-true}
-use Rattle.std.proofs.lemmas.Bool.{and_parts, and_from, lt-ltb, eqb-false, not-true, false≢true}
-use Rattle.std.proofs.lemmas.Option.{same_Some, slice_get_within}
+use Rattle.std.proofs.Common.{◌≡◌, ◌≢◌, ◌⊎◌, ◌↔◌, inl, inr, ⊎_elim, ℕ, ◌+◌, ◌<◌, true, not, ◌==◌, ◌&&◌, List, [], ◌∷◌, length, slice_get, slice_index_or, Option, Some, None, IsTrue, refl, sym, subst, ap, ◌∙◌, arith, eqb-true, suc, Bool, false, cond, ap₂, ne_eqb, map}
+use Rattle.std.proofs.lemmas.Bool.{and_parts, and_from, lt-ltb, eqb-false, not-true, not_from_false, cond-true, cond-false, false≢true}
+use Rattle.std.proofs.lemmas.Option.{none-some, same_Some}
 use Rattle.std.proofs.lemmas.List.{length-append, length-map}
-use Rattle.std.proofs.lemmas.List.Elements.{All-nil, All-cons, All-head, All-filter, filter_passes}
-use Rattle.std.specs.List.{All, range_with_len}
-use Rattle.std.specs.Option.{option_to_list}
-use Rattle.nego_base.specs.Members.{is_in, all_in, IsRising}
-use Rattle.nego_model.specs.Negotiation.{Negotiation, IsNegotiation}
+use Rattle.std.proofs.lemmas.List.Elements.{All-head, All-tail, All-filter, filter_passes}
+use Rattle.std.specs.List.{All, filter, find, range_with_len}
+use Rattle.std.specs.Option.{option_map_or, option_to_list}
+use Rattle.nego_base.specs.Members.{is_in}
+use Rattle.nego_model.specs.Negotiation.{Negotiation}
 use Rattle.nego_model.specs.Occurring.{PlainMarking, Occurrence, enables, after, opening_marking, final_marking, IsSound}
 use Rattle.nego_model.specs.Joining.{RelationTest, By}
-use Rattle.nego_model.specs.Expression.{PlainNode, Then, IsNodeList, Means, EachBase, children}
+use Rattle.nego_model.specs.Expression.{PlainNode, Then, Means}
 use Rattle.nego_model.specs.Reaching.{all_at_last, Reaches}
-use Rattle.nego_base.proofs.Members.{is_in-head, is_in-cases, is_in_none, is_in_single, all_at, some_member, is_in-filter, is_in-range_zero, rises-filter, all_in-member, all_in-members}
+use Rattle.nego_base.proofs.Members.{is_in-head, is_in-cases, is_in_none, is_in_single, all_at, some_member, is_in-filter, is_in-range_zero, all_in-member, all_in-members}
 use Rattle.nego_model.proofs.occurrence.Steps.{after-outcome}
 use Rattle.nego_model.proofs.expressions.Nodes.{Means-append, EachBase-weaker}
 use Rattle.nego_model.proofs.occurrence.Reached.{Leads, Leads-itself, Leads_one, Leads_through, Reaches_one, reached_by_last}
 use Rattle.nego_model.proofs.occurrence.Ways.{after_all_at_last, runs_pass_all_at_last, Runs-from_all_at_last, Sound_from_leads}
 use Rattle.nego_model.proofs.occurrence.Gathered.{all_ready-enables, after_gathered, after_nothing_ready, after_all_sent, all_ready-same}
 use Rattle.nego_model.proofs.simulation.Simulations.{Lasts, Lasts-led}
-use Rattle.nego_expr.specs.Work.{WorkOutcome, PlainWork, outcome_at, work_parties, work_outcomes, sent_to, negotiation_of_work, ByWork, IsWork}
-use Rattle.nego_expr.specs.Use.{same_target, one_sends_all, outcomes_at, nodes_then, can_close, closed_of, closed_by, closed}
+use Rattle.nego_expr.specs.Work.{outcomes_at, WorkOutcome, PlainWork, outcome_at, work_parties, work_outcomes, sent_to, negotiation_of_work, ByWork, IsWork}
+use Rattle.nego_expr.specs.Edits.{nodes_then, without_atom}
+use Rattle.nego_expr.specs.Use.{Close, same_target, sends_all, closes, closed, opening_outcome, allows, after_use}
 use Rattle.nego_expr.specs.Keeps.{Keeps}
 use Rattle.nego_expr.proofs.Alive.{each_found, ByWork-found}
 use Rattle.nego_expr.proofs.OneAtomLeft.{one_atom_left_sound, one_step_runs}
-use Rattle.nego_expr.proofs.AddedNodes.{IsNodeList-append, EachBase-added, ByWork-added, length-nodes_then, node_then, nodes_then-older}
-use Rattle.nego_expr.proofs.WorkEdits.{numbers_of, with_node, All-at_place, found-passing, rises-passing, filter-filter, numbers-with_nodes_from, passing-with_nodes_from, All-with_nodes_from, found-with_nodes_from, atoms-filter, parties-filter}
-use Rattle.nego_expr.proofs.WorkForm.{OutcomeFits, AtomsFit, outcome_found, next-found, work-deterministic, negotiation_from_fits, fits_from_work}
+use Rattle.nego_expr.proofs.AddedNodes.{ByWork-added, length-nodes_then, node_then}
+use Rattle.nego_expr.proofs.EditCalls.{allowed_at}
+use Rattle.nego_expr.proofs.EditedWorks.{IsWithin, IsOutcomeOf, outcomes_of_work, then_each_work, is_in-left, outcomes-left, found_left, without_atom_work}
+use Rattle.nego_expr.proofs.NodesAt.{of_atom, passing-with_nodes_at, found-nodes_at}
+use Rattle.nego_expr.proofs.WorkEdits.{numbers_of, with_node, filter-within, atoms-filter}
+use Rattle.nego_expr.proofs.WorkForm.{OutcomeFits, outcome_found, next-found, work-deterministic, fits_from_work}
 use Rattle.nego_shortcut.specs.Law.{ClosingKeeps}
 
 -- where one passes a test and is found, it is the only one
 only_found : (test : WorkOutcome → Bool) (zs : List WorkOutcome) (x : WorkOutcome) → find test zs ≡ Some x → length (filter test zs) ≡ 1 → filter test zs ≡ x ∷ []
 only_found test [] x h l = absurd (none-some x h)
-only_found test (z ∷ zs) x h l = go (test z) refl h l
+only_found test (z ∷ zs) x h l = go (test z) refl h l (only_found test zs x)
   where
     single : (ys : List WorkOutcome) → suc (length ys) ≡ 1 → ys ≡ []
     single [] e = refl
     single (y ∷ ys) e = absurd (let no_more : ⊥ = omega (arith, e) in no_more)
 
-    go : (b : Bool) → test z ≡ b → find test (z ∷ zs) ≡ Some x → length (cond b (z ∷ filter test zs) (filter test zs)) ≡ 1 → cond b (z ∷ filter test zs) (filter test zs) ≡ x ∷ []
-    go true e f m = ?
-    go false e f m = ?
+    go : (b : Bool) → test z ≡ b → find test (z ∷ zs) ≡ Some x → length (cond b (z ∷ filter test zs) (filter test zs)) ≡ 1 → (find test zs ≡ Some x → length (filter test zs) ≡ 1 → filter test zs ≡ x ∷ []) →
+        cond b (z ∷ filter test zs) (filter test zs) ≡ x ∷ []
+    go true e f m more = ap₂ ◌∷◌ (same_Some z x (sym (cond-true (test z) (Some z) (find test zs) e) ∙ f)) (single (filter test zs) m)
+    go false e f m more = more (sym (cond-false (test z) (Some z) (find test zs) e) ∙ f) m
+
+-- what holds of each holds of the one that is found
+pub find_all : (P : WorkOutcome → Type 0) (test : WorkOutcome → Bool) (zs : List WorkOutcome) (x : WorkOutcome) → find test zs ≡ Some x → All P zs → P x
+find_all P test [] x h k = absurd (none-some x h)
+find_all P test (z ∷ zs) x h k = go (test z) h (find_all P test zs x)
+  where
+    go : (b : Bool) → cond b (Some z) (find test zs) ≡ Some x → (find test zs ≡ Some x → All P zs → P x) → P x
+    go true f more = subst P (same_Some z x f) (All-head P z zs k)
+    go false f more = more f (All-tail P z zs k)
 
 -- exactly the first and the last atom are left, and the first has one outcome, which sends everyone to the last
 pub record Closes (work : PlainWork) (x : WorkOutcome) : Type 0 where
@@ -319,17 +333,26 @@ closes_parts work x found h = record {
 pub closed-one : (work : PlainWork) (x : WorkOutcome) → opening_outcome work ≡ Some x → after_use work Close ≡ closed work x
 closed-one work x e = ap (λ f. option_map_or (closed work) f work) e
 
+-- it is allowed where what is found closes
+pub closes-one : (work : PlainWork) (x : WorkOutcome) → opening_outcome work ≡ Some x → allows work Close ≡ closes work x
+closes-one work x e = ap (λ f. option_map_or (closes work) f false) e
+
+-- without the first atom's outcomes the last atom has those that it had
+pub finals-left : (work : PlainWork) → work.first ≢ work.last → of_atom work.last (filter (λ z. not (z.atom == work.first)) work.outcomes) ≡ outcomes_at work work.last
+finals-left work apart = filter-within (λ z. z.atom == work.last) (λ z. not (z.atom == work.first))
+    (λ z e. not_from_false (z.atom == work.first) (ne_eqb z.atom work.first (λ k. apart (sym k ∙ eqb-true z.atom work.last e)))) work.outcomes
+
 -- a closing adds a node for each outcome of the last atom
 pub nodes-closed : (work : PlainWork) (x : WorkOutcome) → work.first ≢ work.last → length (closed work x).nodes ≡ length work.nodes + length (outcomes_at work work.last)
 nodes-closed work x apart =
-    length-append work.nodes (nodes_then x.node left) ∙ ap (λ n. length work.nodes + n) (length-nodes_then x.node left ∙ ap length same)
-  where
-    left : List WorkOutcome
-    left = of_atom work.last (filter (λ z. not (z.atom == work.first)) work.outcomes)
+    let left = of_atom work.last (filter (λ z. not (z.atom == work.first)) work.outcomes) in
+    length-append work.nodes (nodes_then x.node left) ∙ ap (λ n. length work.nodes + n) (length-nodes_then x.node left ∙ ap length (finals-left work apart))
 
-    same : left ≡ outcomes_at work work.last
-    same = filter-within (λ z. z.atom == work.last) (λ z. not (z.atom == work.first))
-        (λ z e. not_from_false (z.atom == work.first) (ne_eqb z.atom work.first (λ k. apart (sym k ∙ eqb-true z.atom work.last e)))) work.outcomes
+-- the last atom is left where the first is gone
+pub last_left : (work : PlainWork) → IsWork work → work.first ≢ work.last → IsTrue (is_in work.last (map (λ atom. atom.number) (without_atom work.first work).atoms))
+last_left work ok apart = subst (λ xs. IsTrue (is_in work.last xs)) (sym (atoms-filter (λ m. not (m == work.first)) work.atoms))
+    (is_in-filter (λ m. not (m == work.first)) work.last (map (λ atom. atom.number) work.atoms)
+    ∙ and_from (not (work.last == work.first)) (is_in work.last (map (λ atom. atom.number) work.atoms)) (not_from_false (work.last == work.first) (ne_eqb work.last work.first (λ e. apart (sym e)))) ok.form.last_there)
 
 -- A closing that is allowed leaves a work, and keeps.
 pub closing : ClosingKeeps

@@ -1,9 +1,4 @@
-pub mod CloseEdits
 pub mod CloseKeeps
-pub mod Composed
-pub mod Found
-pub mod Guarded
-pub mod Led
 pub mod Passed
 pub mod Sent
 pub mod ShortBackward

@@ -3,23 +3,24 @@ use Rattle.std.proofs.Common.{◌≡◌, ◌≢◌, ◌⊎◌, inl, inr, ⊎_eli
 use Rattle.std.proofs.lemmas.Bool.{cond-true, cond-false, cases_eq, cases_lt, false_from_ne_true}
 use Rattle.std.proofs.lemmas.Option.{none-some, slice_get_within}
 use Rattle.std.proofs.lemmas.List.{length-append, get_or_past}
-use Rattle.std.proofs.lemmas.List.Elements.{All-nil, All-cons, All-weaker, All-filter}
+use Rattle.std.proofs.lemmas.List.Elements.{All-weaker, All-filter}
 use Rattle.std.specs.List.{All}
-use Rattle.nego_base.specs.Members.{is_in, all_in}
+use Rattle.nego_base.specs.Members.{is_in}
 use Rattle.nego_base.proofs.Members.{is_in_none, in_or_not, some_member, all_in-member, all_in-members}
-use Rattle.nego_model.specs.Negotiation.{IsNegotiation}
-use Rattle.nego_model.specs.Expression.{PlainNode, Then, children, EachBase}
+use Rattle.nego_model.specs.Expression.{PlainNode}
 use Rattle.nego_model.proofs.expressions.Nodes.{EachBase-weaker}
-use Rattle.nego_expr.specs.Work.{WorkOutcome, PlainWork, work_parties, work_outcomes, sent_to, negotiation_of_work, IsWork}
-use Rattle.nego_expr.specs.Use.{outcomes_at, nodes_then, targets_through, through, entered_by}
-use Rattle.nego_expr.proofs.AddedNodes.{IsNodeList-append, EachBase-append, EachBase-added, length-nodes_then, node_then, nodes_then-older}
+use Rattle.nego_expr.specs.Work.{outcomes_at, WorkOutcome, PlainWork, work_parties, work_outcomes, sent_to, IsWork}
+use Rattle.nego_expr.specs.Edits.{nodes_then}
+use Rattle.nego_expr.specs.Use.{targets_through, through, gone_through}
+use Rattle.nego_expr.proofs.EditedWorks.{IsWithin, IsOutcomeOf, outcomes_of_work, edited_work, outcome_kept, then_further, EachBase-then}
+use Rattle.nego_expr.proofs.AddedNodes.{length-nodes_then}
 use Rattle.nego_expr.proofs.WorkEdits.{All-found}
-use Rattle.nego_expr.proofs.WorkForm.{OutcomeFits, AtomsFit, AtomsFit_from, found-atom, negotiation_from_fits, fits_from_work}
+use Rattle.nego_expr.proofs.WorkForm.{OutcomeFits, found-atom, fits_from_work}
 use Rattle.nego_shortcut.proofs.ShortWorks.{IsEntry, number_at, sent-through, length-through, at_place, of_atom, each_entered, rise, kept_is, made_is, outcomes-other}
 
 module _ (work : PlainWork) (n : ℕ) (x y : WorkOutcome) (ys : List WorkOutcome) (ok : IsWork work) (entry : IsEntry work x n) (at_n : outcomes_at work n ≡ y ∷ ys) where
-  abbrev entered : PlainWork
-  entered = entered_by work n x (y ∷ ys)
+  abbrev grown : PlainWork
+  grown = gone_through work n x (y ∷ ys)
 
   abbrev added : List PlainNode
   added = nodes_then x.node (y ∷ ys)
@@ -38,7 +39,7 @@ module _ (work : PlainWork) (n : ℕ) (x y : WorkOutcome) (ys : List WorkOutcome
   atom_is : (k : ℕ) (z : WorkOutcome) → slice_get (y ∷ ys) k ≡ Some z → z.atom ≡ n
   atom_is k z e = of_atom work n x y ys ok entry at_n k z e
 
-  each : (P : WorkOutcome → Type 0) → All P work.outcomes → ((k : ℕ) (z : WorkOutcome) → slice_get (y ∷ ys) k ≡ Some z → P (made k z)) → All P entered.outcomes
+  each : (P : WorkOutcome → Type 0) → All P work.outcomes → ((k : ℕ) (z : WorkOutcome) → slice_get (y ∷ ys) k ≡ Some z → P (made k z)) → All P grown.outcomes
   each P h m = each_entered work n x y ys ok entry at_n P h m
 
   entry_fits : OutcomeFits work x
@@ -87,7 +88,7 @@ module _ (work : PlainWork) (n : ℕ) (x y : WorkOutcome) (ys : List WorkOutcome
         (λ l. absurd (none-some m (sym (sent-past a l) ∙ e)))
         (cases_lt a work.agents)
 
-    made_fits : OutcomeFits entered (made k z)
+    made_fits : OutcomeFits grown (made k z)
     made_fits = record {
       there = entry_fits.there;
       ends = λ e a. absurd (entry_leads e);
@@ -96,83 +97,53 @@ module _ (work : PlainWork) (n : ℕ) (x y : WorkOutcome) (ys : List WorkOutcome
       sends = made_sends;
     }
 
-    -- the node that it has is made of older ones
-    made_older : All (λ child. child < length work.nodes) (children (Then x.node z.node))
-    made_older =
-        All-cons (λ child. child < length work.nodes) x.node (z.node ∷ []) (at_entry (λ w. w.node < length work.nodes) ok.nodes_there)
-        (All-cons (λ child. child < length work.nodes) z.node [] (at_atom (λ w. w.node < length work.nodes) k z ok.nodes_there place) (All-nil (λ child. child < length work.nodes)))
-
   -- ---- the work
 
-  kept_fits : (z : WorkOutcome) → OutcomeFits work z → OutcomeFits entered z
-  kept_fits z h = record { there = h.there; ends = h.ends; leads = h.leads; stays = h.stays; sends = h.sends }
-
   -- each atom keeps an outcome
-  some_left : (p : ℕ) → IsTrue (is_in p (map (λ atom. atom.number) work.atoms)) → work_outcomes entered p ≢ []
+  some_left : (p : ℕ) → IsTrue (is_in p (map (λ atom. atom.number) work.atoms)) → work_outcomes grown p ≢ []
   some_left p h e =
       let o = some_member (work_outcomes work p) (ok.form.some_outcome p h) in
       ⊎_elim
       (λ q.
       let same : x.atom ≡ p = found-atom work ok.numbers_rise p x.number x entry.alive (subst (λ m. IsTrue (is_in m (work_outcomes work p))) q o.1) in
-      is_in_none x.number (work_outcomes entered p) e (subst (λ m. IsTrue (is_in x.number (work_outcomes entered m))) same (made_is work n x y ys ok entry at_n 0 y refl)))
-      (λ q. is_in_none o.0 (work_outcomes entered p) e (kept_is work n x y ys ok entry at_n p o.0 o.1 q))
+      is_in_none x.number (work_outcomes grown p) e (subst (λ m. IsTrue (is_in x.number (work_outcomes grown m))) same (made_is work n x y ys ok entry at_n 0 y refl)))
+      (λ q. is_in_none o.0 (work_outcomes grown p) e (kept_is work n x y ys ok entry at_n p o.0 o.1 q))
       (cases_eq o.0 x.number)
-
-  form_entered : IsNegotiation (negotiation_of_work entered)
-  form_entered = negotiation_from_fits entered atoms (rise work n x y ys ok entry at_n)
-      (each (OutcomeFits entered) (All-weaker (OutcomeFits work) (OutcomeFits entered) kept_fits work.outcomes (fits_from_work work ok)) made_fits) some_left
-    where
-      atoms : AtomsFit (negotiation_of_work entered)
-      atoms = let k = AtomsFit_from (negotiation_of_work work) ok.form in record {
-        first_there = k.first_there;
-        last_there = k.last_there;
-        atoms_rise = k.atoms_rise;
-        parties_rise = k.parties_rise;
-        party_below = k.party_below;
-        some_party = k.some_party;
-        all_begin = k.all_begin;
-        all_end = k.all_end;
-      }
 
   -- a made outcome's number is below the least number never used now
   number_used : (k : ℕ) (z : WorkOutcome) → slice_get (y ∷ ys) k ≡ Some z → number_at x.number work.numbers k < work.numbers + length ys
   number_used zero z e = let l : x.number < work.numbers = at_entry (λ w. w.number < work.numbers) ok.numbers_used in omega (arith, l)
   number_used (suc k) z e = let l : k < length ys = slice_get_within ys k z e in omega (arith, l)
 
-  pub length-nodes : length (entered_by work n x (y ∷ ys)).nodes ≡ length work.nodes + length (y ∷ ys)
+  pub length-nodes : length (gone_through work n x (y ∷ ys)).nodes ≡ length work.nodes + length (y ∷ ys)
   length-nodes = length-append work.nodes added ∙ ap (λ count. length work.nodes + count) (length-nodes_then x.node (y ∷ ys))
 
-  -- what is asked of the outcomes under each node is met under the new ones
-  each_base : (P : WorkOutcome → ℕ → Type 0) → All (λ z. EachBase (P z) work.nodes z.node) work.outcomes → ((k : ℕ) (z : WorkOutcome) → slice_get (y ∷ ys) k ≡ Some z → (o : ℕ) → P x o → P (made k z) o) →
-      ((k : ℕ) (z : WorkOutcome) → slice_get (y ∷ ys) k ≡ Some z → (o : ℕ) → P z o → P (made k z) o) → All (λ z. EachBase (P z) entered.nodes z.node) entered.outcomes
-  each_base P h first second = each (λ z. EachBase (P z) entered.nodes z.node) there here
-    where
-      there : All (λ z. EachBase (P z) entered.nodes z.node) work.outcomes
-      there k d l = (EachBase-append (P (slice_index_or work.outcomes k d)) work.nodes added (slice_index_or work.outcomes k d).node (ok.nodes_there k d l)).1 (h k d l)
+  entry_outcome : IsOutcomeOf work x
+  entry_outcome = at_entry (IsOutcomeOf work) (outcomes_of_work work ok)
 
-      here : (k : ℕ) (z : WorkOutcome) → slice_get (y ∷ ys) k ≡ Some z → EachBase (P (made k z)) entered.nodes (length work.nodes + k)
-      here k z e = EachBase-added (P (made k z)) work.nodes added k (Then x.node z.node) (made_older k z e) (node_then x.node (y ∷ ys) k z e) (
-        EachBase-weaker (P x) (P (made k z)) (first k z e) work.nodes x.node (at_entry (λ w. EachBase (P w) work.nodes w.node) h),
-        EachBase-weaker (P z) (P (made k z)) (second k z e) work.nodes z.node (at_atom (λ w. EachBase (P w) work.nodes w.node) k z h e),
-      )
-
-  pub entered_work : IsWork (entered_by work n x (y ∷ ys))
-  entered_work = record {
-    form = form_entered;
-    numbers_rise = rise work n x y ys ok entry at_n;
-    own_atom = each (λ z. IsTrue (is_in z.atom (map (λ atom. atom.number) work.atoms))) ok.own_atom (λ k z e. entry_fits.there);
-    numbers_used = each (λ z. z.number < work.numbers + length ys)
-        (All-weaker (λ z. z.number < work.numbers) (λ z. z.number < work.numbers + length ys) (λ z l. omega (arith, l)) work.outcomes ok.numbers_used) number_used;
-    targets_fit = each (λ z. length z.targets ≡ work.agents) ok.targets_fit (λ k z e. length-through work n x z);
-    nodes = IsNodeList-append work.nodes added ok.nodes
-        (nodes_then-older x.node (length work.nodes) (y ∷ ys) (at_entry (λ w. w.node < length work.nodes) ok.nodes_there)
-        (subst (All (λ w. w.node < length work.nodes)) at_n (All-filter (λ w. w.atom == n) (λ w. w.node < length work.nodes) work.outcomes ok.nodes_there)));
-    nodes_there = each (λ z. z.node < length entered.nodes)
-        (All-weaker (λ z. z.node < length work.nodes) (λ z. z.node < length entered.nodes) (λ z l. omega (arith, l, length-nodes)) work.outcomes ok.nodes_there)
-        (λ k z e. let l = slice_get_within (y ∷ ys) k z e in omega (arith, l, length-nodes));
-    named = ok.named ∙ ap length (sym (outcomes-other work n x y ys ok entry at_n work.last (λ e. entry_leads (sym e))));
-    bases_there = each_base (λ z o. o < length work.bases) ok.bases_there (λ k z e o h. h) (λ k z e o h. h);
-    bases_within = each_base (λ z o. IsTrue (all_in (slice_index_or work.bases o []) (work_parties work z.atom))) ok.bases_within (λ k z e o h. h)
-        (λ k z e o h. all_in-members (slice_index_or work.bases o []) (work_parties work x.atom) (λ a m.
-        entry.within a (subst (λ p. IsTrue (is_in a (work_parties work p))) (atom_is k z e) (all_in-member a (slice_index_or work.bases o []) (work_parties work z.atom) h m))));
+  -- a made outcome is what a work asks of one
+  made_outcome : (k : ℕ) (z : WorkOutcome) → slice_get (y ∷ ys) k ≡ Some z → IsOutcomeOf grown (made k z)
+  made_outcome k z e = record {
+    fits = made_fits k z e;
+    used = number_used k z e;
+    one_each = length-through work n x z;
+    there = let l = slice_get_within (y ∷ ys) k z e in omega (arith, l, length-nodes);
+    within = EachBase-then (IsWithin work x.atom) work.nodes x.node (y ∷ ys) k z e entry_outcome.there place_outcome.there entry_outcome.within
+        (EachBase-weaker (IsWithin work z.atom) (IsWithin work x.atom) within work.nodes z.node place_outcome.within);
   }
+    where
+      place_outcome : IsOutcomeOf work z
+      place_outcome = at_atom (IsOutcomeOf work) k z (outcomes_of_work work ok) e
+
+      -- who is a party of the entered atom is one of the outcome's
+      within : (o : ℕ) → IsWithin work z.atom o → IsWithin work x.atom o
+      within o h = all_in-members (slice_index_or work.bases o []) (work_parties work x.atom) (λ a m.
+          entry.within a (subst (λ p. IsTrue (is_in a (work_parties work p))) (atom_is k z e) (all_in-member a (slice_index_or work.bases o []) (work_parties work z.atom) h m)))
+
+  pub entered_work : IsWork (gone_through work n x (y ∷ ys))
+  entered_work = edited_work work added (work.numbers + length ys) grown.outcomes ok
+      (then_further work x.node (y ∷ ys) entry_outcome.there
+      (subst (All (λ w. w.node < length work.nodes)) at_n (All-filter (λ w. w.atom == n) (λ w. w.node < length work.nodes) work.outcomes ok.nodes_there)))
+      (rise work n x y ys ok entry at_n) some_left (outcomes-other work n x y ys ok entry at_n work.last (λ e. entry_leads (sym e)))
+      (each (IsOutcomeOf grown)
+      (All-weaker (IsOutcomeOf work) (IsOutcomeOf grown) (outcome_kept work added (work.numbers + length ys) grown.outcomes ok (omega arith)) work.outcomes (outcomes_of_work work ok)) made_outcome)

@@ -1,6 +1,5 @@
 -- A shortcut of works: what is left is a work, and the negotiations differ as an entered atom's outcomes make them.
-use Rattle.std.proofs.Common.{◌≡◌, ◌≢◌, ◌⊎◌, ◌↔◌, inl, inr, ⊎_elim, ℕ, ◌+◌, ◌<◌, Bool, true, false, cond, List, [], ◌∷◌, ◌++◌, length, map, slice_get, Option, Some, None, IsTrue, refl, sym, subst, ap, ap₂, ◌∙◌}
-use Rattle.std.proofs.lemmas.Bool.{false≢true}
+use Rattle.std.proofs.Common.{◌≡◌, ◌≢◌, ◌⊎◌, ◌↔◌, inl, inr, ⊎_elim, ℕ, ◌+◌, ◌<◌, Bool, true, false, cond, List, [], ◌∷◌, ◌++◌, length, map, slice_get, Option, Some, IsTrue, refl, sym, subst, ap, ap₂, ◌∙◌}
 use Rattle.std.specs.Option.{option_map_or, option_to_list}
 use Rattle.nego_base.specs.Members.{is_in}
 use Rattle.nego_base.proofs.Members.{is_in-head}
@@ -8,15 +7,16 @@ use Rattle.nego_model.specs.Negotiation.{Negotiation, IsOutcome}
 use Rattle.nego_model.specs.Joining.{RelationTest, By}
 use Rattle.nego_model.specs.Expression.{PlainNode, Then, Means}
 use Rattle.nego_model.proofs.expressions.Nodes.{Means-append}
-use Rattle.nego_expr.specs.Work.{WorkOutcome, PlainWork, outcome_at, work_parties, work_outcomes, sent_to, negotiation_of_work, ByWork, IsWork}
-use Rattle.nego_expr.specs.Use.{outcomes_at, nodes_then, enters, through, entered_by, without_unentered, shortcut_of, can_shortcut, after_shortcut}
+use Rattle.nego_expr.specs.Work.{outcomes_at, WorkOutcome, PlainWork, outcome_at, work_parties, work_outcomes, sent_to, negotiation_of_work, ByWork, IsWork}
+use Rattle.nego_expr.specs.Edits.{nodes_then}
+use Rattle.nego_expr.specs.Use.{enters, through, gone_through, without_unentered, Shortcut, entered, allows, after_use}
 use Rattle.nego_expr.proofs.Alive.{ByWork-found}
 use Rattle.nego_expr.proofs.AddedNodes.{ByWork-kept, ByWork-added, node_then}
-use Rattle.nego_expr.proofs.WorkEdits.{All-found, found-number}
+use Rattle.nego_expr.proofs.WorkEdits.{All-found}
 use Rattle.nego_expr.proofs.WorkForm.{is_in-target, outcome_found, found_outcome, next-found}
 use Rattle.nego_shortcut.proofs.Shortens.{Shortens}
 use Rattle.nego_shortcut.proofs.Unentered.{Leaves, unentered_work, unentered_leaves}
-use Rattle.nego_shortcut.proofs.ShortWorks.{IsEntry, entry_from, made_number, made_number-place, number_at, sent-through, entered_rise, place_of, place_is, found-made, found-kept, found-entered, kept_is, made_is, outcomes-other, length-entered}
+use Rattle.nego_shortcut.proofs.ShortWorks.{IsEntry, entry_from, made_number, made_number-place, number_at, sent-through, entered_rise, place_of, place_is, found-made, found-kept, found-entered, kept_is, made_is, outcomes-other}
 use Rattle.nego_shortcut.proofs.ShortForm.{entry_leads, length-nodes, entered_work}
 
 -- the one target of a choice is the choice of the targets
@@ -25,7 +25,7 @@ option_to_list-cond true s t = refl
 option_to_list-cond false s t = refl
 
 module _ (work new : PlainWork) (n : ℕ) (x y : WorkOutcome) (ys : List WorkOutcome) (ok : IsWork work) (entry : IsEntry work x n) (at_n : outcomes_at work n ≡ y ∷ ys)
-    (left : IsWork new) (leaves : Leaves (entered_by work n x (y ∷ ys)) new n) where
+    (left : IsWork new) (leaves : Leaves (gone_through work n x (y ∷ ys)) new n) where
   abbrev one : Negotiation
   one = negotiation_of_work work
 
@@ -209,52 +209,49 @@ module _ (work : PlainWork) (n : ℕ) (x : WorkOutcome) (ok : IsWork work) (aliv
 
   -- what is left by these outcomes of the entered atom
   abbrev left_by : List WorkOutcome → PlainWork
-  left_by outcomes = without_unentered n (entered_by work n x outcomes)
+  left_by outcomes = without_unentered n (gone_through work n x outcomes)
 
-  made_work : IsWork (entered_by work n x (y ∷ ys))
+  made_work : IsWork (gone_through work n x (y ∷ ys))
   made_work = entered_work work n x y ys ok entry at_n
 
   left_work : IsWork (left_by (y ∷ ys))
-  left_work = unentered_work (entered_by work n x (y ∷ ys)) n made_work entry.not_first entry.not_last
+  left_work = unentered_work (gone_through work n x (y ∷ ys)) n made_work entry.not_first entry.not_last
 
-  left_leaves : Leaves (entered_by work n x (y ∷ ys)) (left_by (y ∷ ys)) n
-  left_leaves = unentered_leaves (entered_by work n x (y ∷ ys)) n made_work entry.not_first entry.not_last entry.there
+  left_leaves : Leaves (gone_through work n x (y ∷ ys)) (left_by (y ∷ ys)) n
+  left_leaves = unentered_leaves (gone_through work n x (y ∷ ys)) n made_work entry.not_first entry.not_last entry.there
 
   -- it is a work
-  pub shortcut_work : IsWork (shortcut_of work n x)
+  pub shortcut_work : IsWork (entered work x n)
   shortcut_work = subst (λ outcomes. IsWork (left_by outcomes)) (sym at_n) left_work
 
   -- it differs as the entered atom's outcomes make it
   pub shortcut_shortens : (test : RelationTest) →
-      Shortens (negotiation_of_work work) (negotiation_of_work (shortcut_of work n x)) (ByWork test work) (ByWork test (shortcut_of work n x)) x.atom n x.number (behind_shortcut work n x)
+      Shortens (negotiation_of_work work) (negotiation_of_work (entered work x n)) (ByWork test work) (ByWork test (entered work x n)) x.atom n x.number (behind_shortcut work n x)
   shortcut_shortens test =
       subst (λ outcomes. Shortens (negotiation_of_work work) (negotiation_of_work (left_by outcomes)) (ByWork test work) (ByWork test (left_by outcomes)) x.atom n x.number (made_number x.number work.numbers outcomes))
       (sym at_n) (shortens_by work (left_by (y ∷ ys)) n x y ys ok entry at_n left_work left_leaves test)
 
   -- the last atom keeps its outcomes
-  pub shortcut_finals : work_outcomes work work.last ≡ work_outcomes (shortcut_of work n x) (shortcut_of work n x).last
+  pub shortcut_finals : work_outcomes work work.last ≡ work_outcomes (entered work x n) (entered work x n).last
   shortcut_finals = subst (λ outcomes. work_outcomes work work.last ≡ work_outcomes (left_by outcomes) (left_by outcomes).last) (sym at_n)
       (same_finals work (left_by (y ∷ ys)) n x y ys ok entry at_n left_work left_leaves)
 
   -- there is a node more for each outcome of the entered atom
-  pub shortcut_nodes : length (shortcut_of work n x).nodes ≡ length work.nodes + length (outcomes_at work n)
+  pub shortcut_nodes : length (entered work x n).nodes ≡ length work.nodes + length (outcomes_at work n)
   shortcut_nodes = subst (λ outcomes. length (left_by outcomes).nodes ≡ length work.nodes + length outcomes) (sym at_n)
       (ap length (sym left_leaves.nodes) ∙ length-nodes work n x y ys ok entry at_n)
 
-  -- there is an outcome more for each but one, where the entered atom isn't gone yet
-  pub shortcut_outcomes : length (entered_by work n x (outcomes_at work n)).outcomes + 1 ≡ length work.outcomes + length (outcomes_at work n)
-  shortcut_outcomes = subst (λ outcomes. length (entered_by work n x outcomes).outcomes + 1 ≡ length work.outcomes + length outcomes) (sym at_n) (length-entered work n x y ys ok entry at_n)
+  -- what was read, and the names, stay
+  pub shortcut_names : work.names ≡ (entered work x n).names
+  shortcut_names = subst (λ outcomes. work.names ≡ (left_by outcomes).names) (sym at_n) left_leaves.names
 
--- what the guard says of what is found
-guarded : (work : PlainWork) (o n : ℕ) (found : Option WorkOutcome) → outcome_at work o ≡ found → IsTrue (option_map_or (λ x. enters work x n) found false) →
-    (x : WorkOutcome) × (outcome_at work o ≡ Some x) × (x.number ≡ o) × IsTrue (enters work x n)
-guarded work o n None e h = absurd (false≢true h)
-guarded work o n (Some x) e h = (x, e, found-number work.outcomes o x e, h)
+  pub shortcut_bases : work.bases ≡ (entered work x n).bases
+  shortcut_bases = subst (λ outcomes. work.bases ≡ (left_by outcomes).bases) (sym at_n) left_leaves.bases
 
--- where a shortcut is allowed, an outcome enters the atom
-pub shortcut_entry : (work : PlainWork) (o n : ℕ) → IsTrue (can_shortcut work o n) → (x : WorkOutcome) × (outcome_at work o ≡ Some x) × (x.number ≡ o) × IsTrue (enters work x n)
-shortcut_entry work o n guard = guarded work o n (outcome_at work o) refl guard
+-- the work after a shortcut of an outcome that is found
+pub shortcut_is : (work : PlainWork) (o n : ℕ) (x : WorkOutcome) → outcome_at work o ≡ Some x → after_use work (Shortcut o n) ≡ entered work x n
+shortcut_is work o n x e = ap (λ found. option_map_or (λ z. entered work z n) found work) e
 
--- it is the shortcut of this outcome
-pub shortcut_is : (work : PlainWork) (o n : ℕ) (x : WorkOutcome) → outcome_at work o ≡ Some x → after_shortcut work o n ≡ shortcut_of work n x
-shortcut_is work o n x e = ap (λ found. option_map_or (shortcut_of work n) found work) e
+-- it is allowed where the outcome enters the atom
+pub shortcut_allowed : (work : PlainWork) (o n : ℕ) (x : WorkOutcome) → outcome_at work o ≡ Some x → allows work (Shortcut o n) ≡ enters work x n
+shortcut_allowed work o n x e = ap (λ found. option_map_or (λ z. enters work z n) found false) e

@@ -9,10 +9,12 @@ use Rattle.std.proofs.lemmas.List.FromFn.{length-map-range_with_len, get_or-map-
 use Rattle.std.specs.List.{All, filter, list_all}
 use Rattle.nego_base.specs.Members.{is_in, all_in, RisesFrom, IsRising}
 use Rattle.nego_base.proofs.Members.{all_at, all_in-member, rises-append}
-use Rattle.nego_expr.specs.Work.{WorkOutcome, PlainWork, outcome_among, outcome_at, work_parties, work_outcomes, sent_to, IsWork}
-use Rattle.nego_expr.specs.Use.{same_target, with_outcome, outcomes_at, enters, targets_through, through, through_from, entered_by}
+use Rattle.nego_expr.specs.Work.{outcomes_at, WorkOutcome, PlainWork, outcome_among, outcome_at, work_parties, work_outcomes, sent_to, IsWork}
+use Rattle.nego_expr.specs.Edits.{with_outcome}
+use Rattle.nego_expr.specs.Use.{same_target, enters, targets_through, through, through_from, gone_through}
 use Rattle.nego_expr.proofs.Alive.{outcome_among_later, each_found}
-use Rattle.nego_expr.proofs.WorkEdits.{numbers_of, All-at_place, All-found, found_cases, found-number, found_there, there_found, none_found, found-passing, rises-passing, found-before, found-behind, numbers-with_outcome, passing-with_outcome, found-with_outcome, found-with_other, All-with_outcome, found-with_nodes_from}
+use Rattle.nego_expr.proofs.NodesAt.{found-nodes_at}
+use Rattle.nego_expr.proofs.WorkEdits.{numbers_of, All-at_place, All-found, found_cases, found-number, found_there, there_found, none_found, rises-passing, found-before, found-behind, numbers-with_outcome, passing-with_outcome, found-with_outcome, found-with_other, All-with_outcome}
 use Rattle.nego_expr.proofs.WorkForm.{outcome_found, found_outcome}
 use Rattle.nego_shortcut.proofs.Unentered.{target_is}
 
@@ -164,8 +166,8 @@ module _ (work : PlainWork) (n : ℕ) (x : WorkOutcome) where
 -- ---- all outcomes
 
 module _ (work : PlainWork) (n : ℕ) (x y : WorkOutcome) (ys : List WorkOutcome) (ok : IsWork work) (entry : IsEntry work x n) (at_n : outcomes_at work n ≡ y ∷ ys) where
-  abbrev entered : PlainWork
-  entered = entered_by work n x (y ∷ ys)
+  abbrev grown : PlainWork
+  grown = gone_through work n x (y ∷ ys)
 
   -- the outcome with the first, and those with the others
   abbrev changed : WorkOutcome
@@ -208,9 +210,8 @@ module _ (work : PlainWork) (n : ℕ) (x y : WorkOutcome) (ys : List WorkOutcome
   pub place_of : (q : ℕ) → IsTrue (is_in q (work_outcomes work n)) → (k : ℕ) × (z : WorkOutcome) × (slice_get (y ∷ ys) k ≡ Some z) × (outcome_at work q ≡ Some z) × (z.number ≡ q)
   place_of q h =
       let z = outcome_found work ok.numbers_rise (λ w. Unit {0}) n q (λ k d l. tt) h in
-      let e : outcome_among (y ∷ ys) q ≡ Some z.0 = subst (λ zs. outcome_among zs q ≡ Some z.0) at_n (found-passing (λ w. w.atom == n) work.outcomes q z.0 ok.numbers_rise z.1 (eq-eqb z.0.atom n z.2)) in
-      let k = found-with_nodes_from 0 (y ∷ ys) q z.0 e in
-      (k.0, z.0, k.1, z.1, found-number work.outcomes q z.0 z.1)
+      let k = found-nodes_at n 0 work.outcomes q z.0 z.1 z.2 in
+      (k.0, z.0, ap (λ zs. slice_get zs k.0) (sym at_n) ∙ k.1, z.1, found-number work.outcomes q z.0 z.1)
 
   -- and the one at a place is an outcome of the atom
   pub place_is : (k : ℕ) (z : WorkOutcome) → slice_get (y ∷ ys) k ≡ Some z → IsTrue (is_in z.number (work_outcomes work n))
@@ -219,13 +220,13 @@ module _ (work : PlainWork) (n : ℕ) (x y : WorkOutcome) (ys : List WorkOutcome
 
   -- what holds of each outcome, and of what each of the entered atom's made, holds of each now
   pub each_entered : (P : WorkOutcome → Type 0) → All P work.outcomes → ((k : ℕ) (z : WorkOutcome) → slice_get (y ∷ ys) k ≡ Some z → P (through work n x z (number_at x.number work.numbers k) (length work.nodes + k))) →
-      All P (entered_by work n x (y ∷ ys)).outcomes
+      All P (gone_through work n x (y ∷ ys)).outcomes
   each_entered P h m =
       All-append P changed_outcomes more (All-with_outcome P changed work.outcomes (subst P made_first (m 0 y refl)) h)
       (All-through_from work n x P work.numbers (length work.nodes + 1) ys (λ k z e. subst P (made_more k z) (m (suc k) z e)))
 
   -- the numbers rise
-  pub rise : IsRising (numbers_of (entered_by work n x (y ∷ ys)).outcomes)
+  pub rise : IsRising (numbers_of (gone_through work n x (y ∷ ys)).outcomes)
   rise = subst IsRising (sym (map-append (λ z. z.number) changed_outcomes more ∙ ap (λ ns. ns ++ numbers_of more) (numbers-with_outcome changed work.outcomes)))
       (rises-append 0 work.numbers (numbers_of work.outcomes) (numbers_of more) (omega arith) ok.numbers_rise (All-map (λ o. o < work.numbers) (λ z. z.number) work.outcomes ok.numbers_used)
       (rises-through_from work n x work.numbers (length work.nodes + 1) ys))
@@ -242,7 +243,7 @@ module _ (work : PlainWork) (n : ℕ) (x y : WorkOutcome) (ys : List WorkOutcome
 
   -- what the outcome at a place made
   pub found-made : (k : ℕ) (z : WorkOutcome) → slice_get (y ∷ ys) k ≡ Some z →
-      outcome_at (entered_by work n x (y ∷ ys)) (number_at x.number work.numbers k) ≡ Some (through work n x z (number_at x.number work.numbers k) (length work.nodes + k))
+      outcome_at (gone_through work n x (y ∷ ys)) (number_at x.number work.numbers k) ≡ Some (through work n x z (number_at x.number work.numbers k) (length work.nodes + k))
   found-made zero z e =
       found-before changed_outcomes more x.number changed (found-with_outcome changed work.outcomes (there_found work.outcomes x.number x entry.alive))
       ∙ (ap Some (sym made_first) ∙ ap (λ w. Some (made 0 w)) (same_Some y z e))
@@ -254,15 +255,15 @@ module _ (work : PlainWork) (n : ℕ) (x y : WorkOutcome) (ys : List WorkOutcome
       none = none_found changed_outcomes (work.numbers + k) (λ m. not_used k (subst (λ ns. IsTrue (is_in (work.numbers + k) ns)) (numbers-with_outcome changed work.outcomes) m))
 
   -- by another number that was alive, what was found
-  pub found-kept : (q : ℕ) (z : WorkOutcome) → outcome_at work q ≡ Some z → q ≢ x.number → outcome_at (entered_by work n x (y ∷ ys)) q ≡ Some z
+  pub found-kept : (q : ℕ) (z : WorkOutcome) → outcome_at work q ≡ Some z → q ≢ x.number → outcome_at (gone_through work n x (y ∷ ys)) q ≡ Some z
   found-kept q z h other = found-before changed_outcomes more q z (found-with_other changed work.outcomes q other ∙ h)
 
   -- nothing else
-  pub found-entered : (q : ℕ) (w : WorkOutcome) → outcome_at (entered_by work n x (y ∷ ys)) q ≡ Some w →
+  pub found-entered : (q : ℕ) (w : WorkOutcome) → outcome_at (gone_through work n x (y ∷ ys)) q ≡ Some w →
       ((outcome_at work q ≡ Some w) × (q ≢ x.number))
       ⊎ ((k : ℕ) × (z : WorkOutcome) × (slice_get (y ∷ ys) k ≡ Some z) × (q ≡ number_at x.number work.numbers k) × (w ≡ through work n x z (number_at x.number work.numbers k) (length work.nodes + k)))
   found-entered q w h = ⊎_elim
-      (λ e. inr (0, y, refl, e, same_Some w (made 0 y) (sym h ∙ (ap (outcome_at entered) e ∙ found-made 0 y refl))))
+      (λ e. inr (0, y, refl, e, same_Some w (made 0 y) (sym h ∙ (ap (outcome_at grown) e ∙ found-made 0 y refl))))
       (λ other. go (outcome_at work q) refl other)
       (cases_eq q x.number)
     where
@@ -277,17 +278,17 @@ module _ (work : PlainWork) (n : ℕ) (x y : WorkOutcome) (ys : List WorkOutcome
   -- ---- the outcomes of an atom
 
   -- another outcome of an atom is one of it now
-  pub kept_is : (p q : ℕ) → IsTrue (is_in q (work_outcomes work p)) → q ≢ x.number → IsTrue (is_in q (work_outcomes (entered_by work n x (y ∷ ys)) p))
+  pub kept_is : (p q : ℕ) → IsTrue (is_in q (work_outcomes work p)) → q ≢ x.number → IsTrue (is_in q (work_outcomes (gone_through work n x (y ∷ ys)) p))
   kept_is p q h other =
       let z = outcome_found work ok.numbers_rise (λ w. Unit {0}) p q (λ k d l. tt) h in
-      found_outcome entered rise p q z.0 (found-kept q z.0 z.1 other) z.2
+      found_outcome grown rise p q z.0 (found-kept q z.0 z.1 other) z.2
 
   -- what the entered atom's made are outcomes of the atom of the outcome
-  pub made_is : (k : ℕ) (z : WorkOutcome) → slice_get (y ∷ ys) k ≡ Some z → IsTrue (is_in (number_at x.number work.numbers k) (work_outcomes (entered_by work n x (y ∷ ys)) x.atom))
-  made_is k z e = found_outcome entered rise x.atom (number k) (made k z) (found-made k z e) refl
+  pub made_is : (k : ℕ) (z : WorkOutcome) → slice_get (y ∷ ys) k ≡ Some z → IsTrue (is_in (number_at x.number work.numbers k) (work_outcomes (gone_through work n x (y ∷ ys)) x.atom))
+  made_is k z e = found_outcome grown rise x.atom (number k) (made k z) (found-made k z e) refl
 
   -- another atom has the outcomes that it had
-  pub outcomes-other : (p : ℕ) → p ≢ x.atom → work_outcomes (entered_by work n x (y ∷ ys)) p ≡ work_outcomes work p
+  pub outcomes-other : (p : ℕ) → p ≢ x.atom → work_outcomes (gone_through work n x (y ∷ ys)) p ≡ work_outcomes work p
   outcomes-other p other =
       ap numbers_of (filter-append (λ z. z.atom == p) changed_outcomes more ∙ (ap (λ zs. filter (λ z. z.atom == p) changed_outcomes ++ zs) (filter-none (λ z. z.atom == p) more none) ∙ append-nil (filter (λ z. z.atom == p) changed_outcomes)))
       ∙ passing-with_outcome (λ z. z.atom == p) changed work.outcomes same
@@ -302,7 +303,7 @@ module _ (work : PlainWork) (n : ℕ) (x y : WorkOutcome) (ys : List WorkOutcome
       same = All-weaker (λ z. outcome_at work z.number ≡ Some z) Same (λ z h e. ap (λ w. w.atom == p) (same_Some z x (sym h ∙ (ap (outcome_at work) e ∙ entry.alive)))) work.outcomes (each_found work.outcomes ok.numbers_rise)
 
   -- as many outcomes are there as there were, and one for each of the entered atom's but one
-  pub length-entered : length (entered_by work n x (y ∷ ys)).outcomes + 1 ≡ length work.outcomes + length (y ∷ ys)
+  pub length-entered : length (gone_through work n x (y ∷ ys)).outcomes + 1 ≡ length work.outcomes + length (y ∷ ys)
   length-entered =
       let l : length (changed_outcomes ++ more) ≡ length changed_outcomes + length more = length-append changed_outcomes more in
       let c : length changed_outcomes ≡ length work.outcomes = length-map work.outcomes (λ z. cond (z.number == changed.number) changed z) in

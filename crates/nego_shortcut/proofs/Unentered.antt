@@ -1,20 +1,16 @@
 -- An atom to which no outcome of another leads: a work without it is a work, and all else is as it was.
-use Rattle.std.proofs.Common.{◌≡◌, ◌≢◌, inl, inr, ⊎_elim, ℕ, zero, suc, ◌<◌, Bool, true, false, not, ◌==◌, ◌&&◌, cond, List, [], ◌∷◌, length, map, slice_get, slice_index_or, Option, Some, None, IsTrue, refl, sym, subst, ap, ◌∙◌, eq-eqb, ne_eqb, eqb-true}
-use Rattle.std.proofs.lemmas.Bool.{and_parts, and_from, and_cases, or_cases, or_parts, cond-true, cond-false, eqb-false, false≢true, true≢false, not-true, not_from_false}
+use Rattle.std.proofs.Common.{◌≡◌, ◌≢◌, ⊎_elim, ℕ, zero, suc, Bool, true, false, not, ◌==◌, ◌&&◌, cond, List, [], ◌∷◌, map, slice_get, slice_index_or, Option, Some, None, IsTrue, refl, sym, subst, ap, ◌∙◌, eq-eqb, ne_eqb, eqb-true}
+use Rattle.std.proofs.lemmas.Bool.{and_parts, and_cases, or_cases, or_parts, cond-true, cond-false, eqb-false, false≢true, true≢false, not-true, not_from_false}
 use Rattle.std.proofs.lemmas.Option.{none-some}
-use Rattle.std.proofs.lemmas.List.Elements.{All-nil, All-cons, All-weaker, All-filter, filter_passes}
+use Rattle.std.proofs.lemmas.List.Elements.{All-nil, All-cons, All-weaker}
 use Rattle.std.specs.List.{All, filter, list_any}
-use Rattle.nego_base.specs.Members.{is_in, all_in, IsRising}
-use Rattle.nego_base.proofs.Members.{is_in-filter, rises-filter}
-use Rattle.nego_model.specs.Negotiation.{IsNegotiation}
-use Rattle.nego_model.specs.Expression.{EachBase}
-use Rattle.nego_expr.specs.Work.{WorkOutcome, PlainWork, outcome_at, work_parties, work_outcomes, sent_to, negotiation_of_work, IsWork}
-use Rattle.nego_expr.specs.Use.{same_target, is_entered, without_unentered}
-use Rattle.nego_expr.specs.Plain.{drop_atom}
-use Rattle.nego_expr.proofs.Alive.{each_found}
+use Rattle.nego_base.specs.Members.{is_in}
+use Rattle.nego_expr.specs.Work.{WorkOutcome, PlainWork, outcome_at, work_parties, work_outcomes, sent_to, IsWork}
+use Rattle.nego_expr.specs.Use.{same_target, is_entered, without_unentered, leads_to}
+use Rattle.nego_expr.specs.Edits.{without_atom}
+use Rattle.nego_expr.proofs.EditedWorks.{is_in-left, is_in_left, parties-left, outcomes-left, found-left, found_left, without_atom_work}
 use Rattle.nego_expr.proofs.Places.{found-place}
-use Rattle.nego_expr.proofs.WorkEdits.{numbers_of, All-found, found-number, found-passing, rises-passing, atoms-filter, parties-filter}
-use Rattle.nego_expr.proofs.WorkForm.{OutcomeFits, AtomsFit, negotiation_from_fits, fits_from_work}
+use Rattle.nego_expr.proofs.WorkEdits.{All-found}
 
 -- an agent's target that is this atom by the test is this atom
 pub target_is : (target : Option ℕ) (n : ℕ) → IsTrue (same_target target (Some n)) → target ≡ Some n
@@ -45,10 +41,6 @@ filter-within p q h (y ∷ ys) = go (p y) (q y) refl refl (filter-within p q h y
     go false false e f k = k
 
 -- ---- who is led to the atom
-
--- whether a target of the outcome is the atom
-abbrev pub leads_to : ℕ → WorkOutcome → Bool
-leads_to n z = list_any (λ target. same_target target (Some n)) z.targets
 
 -- where a target is the atom, an agent is sent to it
 some_sent : (n : ℕ) (targets : List (Option ℕ)) → list_any (λ target. same_target target (Some n)) targets ≡ true → (a : ℕ) × (slice_index_or targets a None ≡ Some n)
@@ -84,6 +76,8 @@ pub record Leaves (old new : PlainWork) (n : ℕ) : Type 0 where
   pub first : old.first ≡ new.first
   pub last : old.last ≡ new.last
   pub nodes : old.nodes ≡ new.nodes
+  pub names : old.names ≡ new.names
+  pub bases : old.bases ≡ new.bases
   pub atoms_kept : (p : ℕ) → IsTrue (is_in p (map (λ atom. atom.number) old.atoms)) → p ≢ n → IsTrue (is_in p (map (λ atom. atom.number) new.atoms))
   pub atoms_only : (p : ℕ) → IsTrue (is_in p (map (λ atom. atom.number) new.atoms)) → IsTrue (is_in p (map (λ atom. atom.number) old.atoms))
   pub parties : (p : ℕ) → IsTrue (is_in p (map (λ atom. atom.number) new.atoms)) → work_parties old p ≡ work_parties new p
@@ -100,6 +94,8 @@ atom_stays work n ok there entered = record {
   first = refl;
   last = refl;
   nodes = refl;
+  names = refl;
+  bases = refl;
   atoms_kept = λ p h other. h;
   atoms_only = λ p h. h;
   parties = λ p h. refl;
@@ -112,102 +108,19 @@ atom_stays work n ok there entered = record {
 
 module _ (work : PlainWork) (n : ℕ) (ok : IsWork work) (none : is_entered work n ≡ false) (not_first : n ≢ work.first) (not_last : n ≢ work.last) where
   abbrev new : PlainWork
-  new = drop_atom work n
+  new = without_atom n work
 
-  abbrev atoms : List ℕ
-  atoms = map (λ atom. atom.number) work.atoms
+  unled : All (λ z. z.atom ≢ n → (a : ℕ) → sent_to z a ≢ Some n) work.outcomes
+  unled = none_entered work n none
 
-  abbrev left : List ℕ
-  left = map (λ atom. atom.number) new.atoms
-
-  -- the atoms but for the one are left
-  is_in-left : (p : ℕ) → IsTrue (is_in p left) → (p ≢ n) × IsTrue (is_in p atoms)
-  is_in-left p h =
-      let k = and_parts (not (p == n)) (is_in p atoms) (sym (is_in-filter (λ m. not (m == n)) p atoms) ∙ subst (λ xs. IsTrue (is_in p xs)) (atoms-filter (λ m. not (m == n)) work.atoms) h) in
-      (eqb-false p n (not-true (p == n) k.0), k.1)
-
-  is_in_left : (p : ℕ) → p ≢ n → IsTrue (is_in p atoms) → IsTrue (is_in p left)
-  is_in_left p other h = subst (λ xs. IsTrue (is_in p xs)) (sym (atoms-filter (λ m. not (m == n)) work.atoms))
-      (is_in-filter (λ m. not (m == n)) p atoms ∙ and_from (not (p == n)) (is_in p atoms) (not_from_false (p == n) (ne_eqb p n other)) h)
-
-  -- they have their parties and their outcomes
-  parties-left : (p : ℕ) → p ≢ n → work_parties new p ≡ work_parties work p
-  parties-left p other = parties-filter (λ m. not (m == n)) work.atoms p (not_from_false (p == n) (ne_eqb p n other))
-
-  outcomes-left : (p : ℕ) → p ≢ n → work_outcomes new p ≡ work_outcomes work p
-  outcomes-left p other = ap numbers_of (filter-within (λ z. z.atom == p) (λ z. not (z.atom == n))
-      (λ z e. not_from_false (z.atom == n) (ne_eqb z.atom n (λ k. other (sym (eqb-true z.atom p e) ∙ k)))) work.outcomes)
-
-  -- what holds of each outcome holds of each that is left, which is of another atom
-  each_left : (P : WorkOutcome → Type 0) → All P work.outcomes → All (λ z. P z × (z.atom ≢ n)) new.outcomes
-  each_left P h k d l =
-      let z = slice_index_or new.outcomes k d in
-      (All-filter (λ w. not (w.atom == n)) P work.outcomes h k d l, eqb-false z.atom n (not-true (z.atom == n) (filter_passes (λ w. not (w.atom == n)) work.outcomes k d l)))
-
-  found-left : (q : ℕ) (z : WorkOutcome) → outcome_at new q ≡ Some z → (outcome_at work q ≡ Some z) × (z.atom ≢ n)
-  found-left q z h =
-      let Found : WorkOutcome → Type 0 = λ w. (outcome_at work w.number ≡ Some w) × (w.atom ≢ n) in
-      let k : Found z = All-found Found new.outcomes q z (each_left (λ w. outcome_at work w.number ≡ Some w) (each_found work.outcomes ok.numbers_rise)) h in
-      (subst (λ o. outcome_at work o ≡ Some z) (found-number new.outcomes q z h) k.0, k.1)
-
-  found_left : (q : ℕ) (z : WorkOutcome) → outcome_at work q ≡ Some z → z.atom ≢ n → outcome_at new q ≡ Some z
-  found_left q z h other = found-passing (λ w. not (w.atom == n)) work.outcomes q z ok.numbers_rise h (not_from_false (z.atom == n) (ne_eqb z.atom n other))
-
-  -- ---- the work that is left
-
-  atoms_fit : AtomsFit (negotiation_of_work new)
-  atoms_fit = record {
-    first_there = is_in_left work.first (λ e. not_first (sym e)) ok.form.first_there;
-    last_there = is_in_left work.last (λ e. not_last (sym e)) ok.form.last_there;
-    atoms_rise = subst IsRising (sym (atoms-filter (λ m. not (m == n)) work.atoms)) (rises-filter (λ m. not (m == n)) 0 atoms ok.form.atoms_rise);
-    parties_rise = λ p h. let k = is_in-left p h in subst IsRising (sym (parties-left p k.0)) (ok.form.parties_rise p k.1);
-    party_below = λ p a h m. let k = is_in-left p h in ok.form.party_below p a k.1 (subst (λ xs. IsTrue (is_in a xs)) (parties-left p k.0) m);
-    some_party = λ p h e. let k = is_in-left p h in ok.form.some_party p k.1 (sym (parties-left p k.0) ∙ e);
-    all_begin = λ a h. subst (λ xs. IsTrue (is_in a xs)) (sym (parties-left work.first (λ e. not_first (sym e)))) (ok.form.all_begin a h);
-    all_end = λ a h. subst (λ xs. IsTrue (is_in a xs)) (sym (parties-left work.last (λ e. not_last (sym e)))) (ok.form.all_end a h);
-  }
-
-  -- an outcome of another atom is left as it was: it leads to atoms that are left
-  fits-left : (z : WorkOutcome) → (OutcomeFits work z × (z.atom ≢ n → (a : ℕ) → sent_to z a ≢ Some n)) × (z.atom ≢ n) → OutcomeFits new z
-  fits-left z h = record {
-    there = is_in_left z.atom h.1 h.0.0.there;
-    ends = h.0.0.ends;
-    leads = λ l a p. h.0.0.leads l a (subst (λ xs. IsTrue (is_in a xs)) (parties-left z.atom h.1) p);
-    stays = λ a. ⊎_elim (λ p. inl (subst (λ xs. IsTrue (is_in a xs)) (sym (parties-left z.atom h.1)) p)) (λ e. inr e) (h.0.0.stays a);
-    sends = λ a m e.
-        let k = h.0.0.sends a m e in
-        let other : m ≢ n = λ q. h.0.1 h.1 a (e ∙ ap Some q) in
-        (is_in_left m other k.0, subst (λ xs. IsTrue (is_in a xs)) (sym (parties-left m other)) k.1);
-  }
-
-  form_left : IsNegotiation (negotiation_of_work new)
-  form_left = negotiation_from_fits new atoms_fit (rises-passing (λ z. not (z.atom == n)) 0 work.outcomes ok.numbers_rise)
-      (All-weaker (λ z. Fits z × (z.atom ≢ n)) (OutcomeFits new) fits-left new.outcomes (each_left Fits fits))
-      (λ p h e. let k = is_in-left p h in ok.form.some_outcome p k.1 (sym (outcomes-left p k.0) ∙ e))
-    where
-      Fits : WorkOutcome → Type 0
-      Fits z = OutcomeFits work z × (z.atom ≢ n → (a : ℕ) → sent_to z a ≢ Some n)
-
-      fits : All Fits work.outcomes
-      fits k d l = (fits_from_work work ok k d l, none_entered work n none k d l)
+  other_first : work.first ≢ n
+  other_first e = not_first (sym e)
 
   work_left : IsWork new
-  work_left = record {
-    form = form_left;
-    numbers_rise = rises-passing (λ z. not (z.atom == n)) 0 work.outcomes ok.numbers_rise;
-    own_atom = All-weaker (λ z. IsTrue (is_in z.atom atoms) × (z.atom ≢ n)) (λ z. IsTrue (is_in z.atom left)) (λ z h. is_in_left z.atom h.1 h.0) new.outcomes (each_left (λ z. IsTrue (is_in z.atom atoms)) ok.own_atom);
-    numbers_used = All-filter (λ z. not (z.atom == n)) (λ z. z.number < work.numbers) work.outcomes ok.numbers_used;
-    targets_fit = All-filter (λ z. not (z.atom == n)) (λ z. length z.targets ≡ work.agents) work.outcomes ok.targets_fit;
-    nodes = ok.nodes;
-    nodes_there = All-filter (λ z. not (z.atom == n)) (λ z. z.node < length work.nodes) work.outcomes ok.nodes_there;
-    named = ok.named ∙ ap length (sym (outcomes-left work.last (λ e. not_last (sym e))));
-    bases_there = All-filter (λ z. not (z.atom == n)) (λ z. EachBase (λ o. o < length work.bases) work.nodes z.node) work.outcomes ok.bases_there;
-    bases_within = All-weaker (λ z. Within z (work_parties work z.atom) × (z.atom ≢ n)) (λ z. Within z (work_parties new z.atom)) (λ z h. subst (Within z) (sym (parties-left z.atom h.1)) h.0) new.outcomes
-        (each_left (λ z. Within z (work_parties work z.atom)) ok.bases_within);
-  }
-    where
-      Within : WorkOutcome → List ℕ → Type 0
-      Within z parties = EachBase (λ o. IsTrue (all_in (slice_index_or work.bases o []) parties)) work.nodes z.node
+  work_left = without_atom_work work n work.first ok not_last other_first ok.form.first_there ok.form.all_begin unled
+
+  left : (p : ℕ) → IsTrue (is_in p (map (λ atom. atom.number) new.atoms)) → (p ≢ n) × IsTrue (is_in p (map (λ atom. atom.number) work.atoms))
+  left = is_in-left work n work.first ok not_last other_first ok.form.first_there ok.form.all_begin unled
 
   atom_gone : Leaves work new n
   atom_gone = record {
@@ -215,23 +128,25 @@ module _ (work : PlainWork) (n : ℕ) (ok : IsWork work) (none : is_entered work
     first = refl;
     last = refl;
     nodes = refl;
-    atoms_kept = λ p h other. is_in_left p other h;
-    atoms_only = λ p h. (is_in-left p h).1;
-    parties = λ p h. sym (parties-left p (is_in-left p h).0);
-    outcomes = λ p h. sym (outcomes-left p (is_in-left p h).0);
-    found = λ q z h k. found_left q z h (is_in-left z.atom k).0;
-    found_only = λ q z h. (found-left q z h).0;
+    names = refl;
+    bases = refl;
+    atoms_kept = λ p h other. is_in_left work n work.first ok not_last other_first ok.form.first_there ok.form.all_begin unled p other h;
+    atoms_only = λ p h. (left p h).1;
+    parties = λ p h. sym (parties-left work n work.first ok not_last other_first ok.form.first_there ok.form.all_begin unled p (left p h).0);
+    outcomes = λ p h. sym (outcomes-left work n work.first ok not_last other_first ok.form.first_there ok.form.all_begin unled p (left p h).0);
+    found = λ q z h k. found_left work n work.first ok not_last other_first ok.form.first_there ok.form.all_begin unled q z h (left z.atom k).0;
+    found_only = λ q z h. (found-left work n work.first ok not_last other_first ok.form.first_there ok.form.all_begin unled q z h).0;
     gone = λ no q a z h.
-        let k = found-left q z h in
+        let k = found-left work n work.first ok not_last other_first ok.form.first_there ok.form.all_begin unled q z h in
         All-found (λ w. w.atom ≢ n → (b : ℕ) → sent_to w b ≢ Some n) work.outcomes q z (none_entered work n none) k.0 k.1 a;
-    stays = λ h. absurd ((is_in-left n h).0 refl);
+    stays = λ h. absurd ((left n h).0 refl);
   }
 
 -- A work without an atom that isn't entered is a work.
 pub unentered_work : (work : PlainWork) (n : ℕ) → IsWork work → n ≢ work.first → n ≢ work.last → IsWork (without_unentered n work)
 unentered_work work n ok not_first not_last = go (is_entered work n) refl
   where
-    go : (b : Bool) → is_entered work n ≡ b → IsWork (cond b work (drop_atom work n))
+    go : (b : Bool) → is_entered work n ≡ b → IsWork (cond b work (without_atom n work))
     go true e = ok
     go false e = work_left work n ok e not_first not_last
 
@@ -239,6 +154,6 @@ unentered_work work n ok not_first not_last = go (is_entered work n) refl
 pub unentered_leaves : (work : PlainWork) (n : ℕ) → IsWork work → n ≢ work.first → n ≢ work.last → IsTrue (is_in n (map (λ atom. atom.number) work.atoms)) → Leaves work (without_unentered n work) n
 unentered_leaves work n ok not_first not_last there = go (is_entered work n) refl
   where
-    go : (b : Bool) → is_entered work n ≡ b → Leaves work (cond b work (drop_atom work n)) n
+    go : (b : Bool) → is_entered work n ≡ b → Leaves work (cond b work (without_atom n work)) n
     go true e = atom_stays work n ok there e
     go false e = atom_gone work n ok e not_first not_last

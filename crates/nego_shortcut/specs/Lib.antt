@@ -1,3 +1,2 @@
-pub mod Composing
-pub mod Entering
 pub mod Law
+pub mod Passing

@@ -1,95 +1,89 @@
 //! When a work may be closed, and the closing.
-ghost use Rattle.std.specs.Prelude.{◌≡◌, ◌+◌, ◌<◌, ◌≤◌, false, IsTrue, IsSome, OnOk, OnErr, IfErr, Some, Err, length};
-ghost use Rattle.nego_expr.specs.Work.{WorkOutcome, IsWork, outcome_at, sent_to};
-ghost use Rattle.nego_expr.specs.Use.{can_close, closed, most_nodes, outcomes_at, one_sends_all, sends_all, same_target};
-ghost use Rattle.nego_expr.specs.Keeps.{Keeps};
+ghost use Rattle.std.specs.Prelude.{◌≡◌, ◌≢◌, ◌<◌, ◌≤◌, IfSome, Some, is_some, length, option_map, find, ◌==◌};
+ghost use Rattle.std.specs.Option.{option_copied};
+ghost use Rattle.nego_expr.specs.Work.{IsWork, outcomes_at};
+ghost use Rattle.nego_expr.specs.Edits.{then_each, without_atom};
+ghost use Rattle.nego_expr.specs.Use.{Close, allows, closes, opening_outcome};
+ghost use Rattle.nego_expr.specs.Made.{IsMade};
+ghost use Rattle.nego_expr.specs.WorkView.{plain_outcome};
 
-use crate::composing::compose_all;
-use crate::finding::only_of;
-use nego_base::{AgentId, AtomId, OutcomeId};
-use nego_expr::{RuleFault, Work};
+use nego_base::{AgentSet, AtomId, NodeId};
+use nego_expr::{Outcome, RuleFault, Work};
 
 /// Whether the work may be closed: exactly the first and the last atom are left, they differ, the first has one
 /// outcome, and it sends every agent to the last.
 pub fn can_close(w: &Work) -> bool
     requires work { IsWork w.now.plain }
-    ensures { result ≡ can_close w.now.plain }
+    ensures { result ≡ allows w.now.plain Close }
 {
-    w.left().count() == 2 && w.first() != w.last() && one_sends_all(w, w.first(), w.last())
+    closing_outcome(w).is_some()
 }
 
-/// Whether the atom has exactly one outcome, and it sends every agent to the other atom.
-fn one_sends_all(w: &Work, n: AtomId, to: AtomId) -> bool
+/// The first atom's outcome, where the work may be closed by it.
+fn closing_outcome(w: &Work) -> Option<&Outcome>
     requires work { IsWork w.now.plain }
-    ensures { result ≡ one_sends_all w.now.plain.agents to.0 (outcomes_at w.now.plain n.0) }
+    ensures found { IfSome result (λ x. opening_outcome w.now.plain ≡ Some (plain_outcome x.now)) }
+    ensures allowed { is_some result ≡ allows w.now.plain Close }
 {
-    match only_of(w, n) {
-        Some(o) => sends_all(w, o, to),
-        None => false,
+    let x = opening_outcome(w)?;
+    if !closes(w, x) {
+        return None;
     }
+    Some(x)
 }
 
-/// Whether an alive outcome sends every agent to the atom.
-fn sends_all(w: &Work, o: OutcomeId, n: AtomId) -> bool
-    requires alive { IsSome (outcome_at w.now.plain o.0) }
-    ensures { (x : WorkOutcome) → outcome_at w.now.plain o.0 ≡ Some x → result ≡ sends_all w.now.plain.agents n.0 x }
+/// The least outcome of the first atom.
+fn opening_outcome(w: &Work) -> Option<&Outcome>
+    ensures { option_map (λ x. plain_outcome x.now) result ≡ opening_outcome w.now.plain }
 {
-    for a in 0..w.agents() {
-        if !sends(w, o, AgentId(a), n) {
-            return false;
-        }
-    }
-    true
+    first_of(w.outcomes(), w.first())
 }
 
-/// Whether an alive outcome sends the agent to the atom.
-pub(crate) fn sends(w: &Work, o: OutcomeId, a: AgentId, n: AtomId) -> bool
-    requires alive { IsSome (outcome_at w.now.plain o.0) }
-    requires agent { a.0 < w.now.plain.agents }
-    ensures { (x : WorkOutcome) → outcome_at w.now.plain o.0 ≡ Some x → result ≡ same_target (sent_to x a.0) (Some n.0) }
+/// The first of the outcomes that is of the atom.
+fn first_of(outcomes: &[Outcome], n: AtomId) -> Option<&Outcome>
+    ensures { option_copied result ≡ find (λ x. x.atom.0 == n.0) outcomes.now }
 {
-    w.target(o, a) == Some(n)
+    outcomes.iter().find(|x| x.atom == n)
+}
+
+/// Whether exactly the first and the last atom are left, they differ, and the outcome is the only one of the first and
+/// sends every agent to the last.
+fn closes(w: &Work, x: &Outcome) -> bool
+    requires work { IsWork w.now.plain }
+    ensures { result ≡ closes w.now.plain (plain_outcome x.now) }
+{
+    w.left().count() == 2
+        && w.first() != w.last()
+        && w.count_of(w.first()) == 1
+        && x.sends_all(AgentSet::below(w.agents()), w.last())
 }
 
 /// Closes the work: each outcome of the last atom has the first's outcome put before it; the first atom and its outcome
-/// are gone, and the last atom is also the first. On each refusal the work is as before. `Guard` comes exactly where
-/// the closing isn't allowed, and `Nodes` exactly where it is allowed and there would be more than 20,000 nodes.
+/// are gone, and the last atom is also the first.
 pub fn close(w: &mut Work) -> Result<(), RuleFault>
     requires work { IsWork w.old.plain }
-    ensures allowed { OnOk result (IsTrue (can_close w.old.plain)) }
-    ensures closed { OnOk result (w.new.plain ≡ closed w.old.plain) }
-    ensures work { IsWork w.new.plain }
-    ensures keeps { OnOk result (Keeps w.old.plain w.new.plain) }
-    ensures guard { can_close w.old.plain ≡ false → result ≡ Err RuleFault.Guard }
-    ensures only_guard { IfErr result (λ e. e ≡ RuleFault.Guard → can_close w.old.plain ≡ false) }
-    ensures nodes { IsTrue (can_close w.old.plain) →
-        most_nodes < length w.old.plain.nodes + length (outcomes_at w.old.plain w.old.plain.last) →
-        result ≡ Err RuleFault.Nodes }
-    ensures only_nodes { IfErr result (λ e. e ≡ RuleFault.Nodes → IsTrue (can_close w.old.plain)
-        × (most_nodes < length w.old.plain.nodes + length (outcomes_at w.old.plain w.old.plain.last))) }
-    ensures err { OnErr result (w.new.plain ≡ w.old.plain) }
+    ensures { IsMade Close w.old.plain w.new.plain result }
 {
-    if !can_close(w) {
+    let Some(x) = closing_outcome(w) else {
         return Err(RuleFault::Guard);
-    }
-    let finals = w.count_of(w.last());
-    w.room(finals, 0)?;
-    leave_last(w);
+    };
+    let node = x.node;
+    w.room(w.count_of(w.last()), 0)?;
+    leave_last(w, node);
     Ok(())
 }
 
-/// The last atom is left alone, with the first's outcome put before each of its own, for which there is room.
-fn leave_last(w: &mut Work)
+/// The last atom is left alone, with a node put before that of each of its outcomes, for which there is room.
+fn leave_last(w: &mut Work, x: NodeId)
     requires work { IsWork w.old.plain }
-    requires guard { IsTrue (can_close w.old.plain) }
+    requires apart { w.old.plain.first ≢ w.old.plain.last }
+    requires there { x.0 < length w.old.plain.nodes }
     requires spare { length (outcomes_at w.old.plain w.old.plain.last) ≤ w.old.spare_nodes }
-    ensures { w.new.plain ≡ closed w.old.plain }
+    ensures { w.new.plain ≡ then_each x.0 w.old.plain.last (record (without_atom w.old.plain.first w.old.plain) { first = w.old.plain.last }) }
 {
     let first = w.first();
     let last = w.last();
-    let entry = only_of(w, first).unwrap();
-    let node = w.node_of(entry);
     w.drop_atom(first);
     w.set_first(last);
-    compose_all(w, node);
+    w.then_each(x, last);
 }

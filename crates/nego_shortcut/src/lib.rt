@@ -3,11 +3,8 @@
 #![tactic(auto)]
 
 mod closing;
-mod composing;
 mod entering;
-mod finding;
 mod law;
-mod leading;
 mod through;
 
 pub use closing::{can_close, close};

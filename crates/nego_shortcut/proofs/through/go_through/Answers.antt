@@ -1,178 +1,98 @@
-use Rattle.std.proofs.Common.{◌≡◌, ◌+◌, ◌<◌, Some, refl, sym, subst, ap, ap₂, ◌∙◌, arith}
-use Rattle.std.proofs.lemmas.Option.{same_Some}
-use Rattle.std.specs.Option.{IsSome}
-use Rattle.nego_expr.specs.Work.{outcome_at}
-use Rattle.nego_expr.specs.Use.{entered_by, outcomes_at}
-use Rattle.nego_expr.proofs.EditCalls.{alive_found}
-use Rattle.nego_expr.proofs.WorkEdits.{All-found}
-use Rattle.nego_shortcut.specs.Entering.{plain_entry, passing, set_through, add_through}
-use Rattle.nego_shortcut.proofs.Passed.{Passes, entrance_from, first_own, may_pass_first, may_pass, may_pass_as, least_is_first, passes_first, passes_over, passes_more, passes_room, passes_all, found_of_atom, none_of_atom}
+use Rattle.std.proofs.Common.{◌≡◌, ◌+◌, ◌<◌, true, false, ℕ, List, ◌∷◌, Some, length, slice_get, option_map, refl, sym, subst, ap, ◌∙◌, arith, eqb-true}
+use Rattle.std.proofs.lemmas.Bool.{eqb-false}
+use Rattle.std.proofs.lemmas.List.{length-map}
+use Rattle.std.proofs.lemmas.Option.{same_Some, slice_get-map, slice_get_read}
+use Rattle.nego_expr.specs.Work.{WorkOutcome, PlainWork}
+use Rattle.nego_expr.specs.WorkView.{plain_outcome}
+use Rattle.nego_expr.proofs.NodesAt.{of_atom}
+use Rattle.nego_shortcut.specs.Passing.{MayPass, passed_one}
+use Rattle.nego_shortcut.proofs.ShortWorks.{IsEntry, entry_from}
+use Rattle.nego_shortcut.proofs.Passed.{IsUpTo, next_of, more_places, may_pass_next, room_next, own_passed, other_passed}
 use Rattle.nego_shortcut.proofs.through.go_through.Goals as goal
-use Rattle.nego_shortcut.proofs.through.go_through.Goals.{then-is_of, else-is_of}
+use Rattle.nego_shortcut.proofs.through.go_through.Goals.{After-eq, then-eq, else-eq}
 
-pub set_through-requires-clause-alive : goal.set_through-requires-clause-alive
-set_through-requires-clause-alive c =
-    let work = c.args.w.now.plain in
-    let o = c.args.o.0 in
-    let n = c.args.n.0 in
-    let k = entrance_from work o n c.requires.work c.requires.guard in
-    let first = least_is_first work o n c.requires.work k c.least_of.result c.unwrap-first.result c.unwrap-first.ensures c.least_of.ensures in
-    let found : outcome_at work c.unwrap-first.result.0 ≡ Some k.y = subst (λ p. outcome_at work p ≡ Some k.y) (sym first) (first_own work o n c.requires.work k).0 in
-    alive_found (outcome_at work c.unwrap-first.result.0) k.y found
+module _ (c : After-eq) where
+  abbrev from : PlainWork
+  from = c.args.w.now.plain
 
-pub set_through-requires-clause-fit : goal.set_through-requires-clause-fit
-set_through-requires-clause-fit c =
-    let work = c.args.w.now.plain in
-    let o = c.args.o.0 in
-    let n = c.args.n.0 in
-    let k = entrance_from work o n c.requires.work c.requires.guard in
-    let first = least_is_first work o n c.requires.work k c.least_of.result c.unwrap-first.result c.unwrap-first.ensures c.least_of.ensures in
-    (may_pass_as work n c.entry_of-entry.result.into.0 k.y.number c.unwrap-first.result.0 (passing n k.x) (plain_entry c.entry_of-entry.result) c.entry_of-entry.ensures.into (c.entry_of-entry.ensures.plain k.x k.found) first
-    (may_pass_first work o n c.requires.work k)).fit
+  abbrev x : WorkOutcome
+  x = plain_outcome c.args.x.now
 
-pub set_through-requires-clause-leads : goal.set_through-requires-clause-leads
-set_through-requires-clause-leads c =
-    let work = c.args.w.now.plain in
-    let o = c.args.o.0 in
-    let n = c.args.n.0 in
-    let k = entrance_from work o n c.requires.work c.requires.guard in
-    let first = least_is_first work o n c.requires.work k c.least_of.result c.unwrap-first.result c.unwrap-first.ensures c.least_of.ensures in
-    (may_pass_as work n c.entry_of-entry.result.into.0 k.y.number c.unwrap-first.result.0 (passing n k.x) (plain_entry c.entry_of-entry.result) c.entry_of-entry.ensures.into (c.entry_of-entry.ensures.plain k.x k.found) first
-    (may_pass_first work o n c.requires.work k)).leads
+  abbrev n : ℕ
+  n = c.args.n.0
 
-pub set_through-requires-clause-there : goal.set_through-requires-clause-there
-set_through-requires-clause-there c =
-    let work = c.args.w.now.plain in
-    let o = c.args.o.0 in
-    let n = c.args.n.0 in
-    let k = entrance_from work o n c.requires.work c.requires.guard in
-    let first = least_is_first work o n c.requires.work k c.least_of.result c.unwrap-first.result c.unwrap-first.ensures c.least_of.ensures in
-    (may_pass_as work n c.entry_of-entry.result.into.0 k.y.number c.unwrap-first.result.0 (passing n k.x) (plain_entry c.entry_of-entry.result) c.entry_of-entry.ensures.into (c.entry_of-entry.ensures.plain k.x k.found) first
-    (may_pass_first work o n c.requires.work k)).there
+  abbrev to : PlainWork
+  to = c.loop-i.w.plain
 
-pub set_through-requires-clause-entry : goal.set_through-requires-clause-entry
-set_through-requires-clause-entry c =
-    let work = c.args.w.now.plain in
-    let o = c.args.o.0 in
-    let n = c.args.n.0 in
-    let k = entrance_from work o n c.requires.work c.requires.guard in
-    let number : c.entry_of-entry.result.number.0 ≡ k.x.number = ap (λ x. x.number) (c.entry_of-entry.ensures.plain k.x k.found) in
-    subst (λ p. IsSome (outcome_at work p)) (sym number) (alive_found (outcome_at work k.x.number) k.x k.entry.alive)
+  entry : IsEntry from x n
+  entry = entry_from from x n c.requires.alive c.requires.enters
 
-pub overflow_step-p : goal.overflow_step-p
-overflow_step-p c =
-    let work = c.args.w.now.plain in
-    let o = c.args.o.0 in
-    let n = c.args.n.0 in
-    let k = entrance_from work o n c.requires.work c.requires.guard in
-    let first = least_is_first work o n c.requires.work k c.least_of.result c.unwrap-first.result c.unwrap-first.ensures c.least_of.ensures in
-    let below : k.y.number < work.numbers = All-found (λ z. z.number < work.numbers) work.outcomes k.y.number k.y c.requires.work.numbers_used (first_own work o n c.requires.work k).0 in
-    omega (arith, first, below, c.numbers-numbers.ensures, c.numbers-numbers.type_inv)
+  within : c.loop-i.i < length from.outcomes
+  within =
+      let seen = length-map c.outcomes-i-end.result.now plain_outcome in
+      let same = ap length c.outcomes-i-end.ensures in
+      omega (arith, c.loop-i-test.true, seen, same)
 
-pub loop-p-init : goal.loop-p-init
-loop-p-init c =
-    let work = c.args.w.now.plain in
-    let o = c.args.o.0 in
-    let n = c.args.n.0 in
-    λ k.
-    let first = least_is_first work o n c.requires.work k c.least_of.result c.unwrap-first.result c.unwrap-first.ensures c.least_of.ensures in
-    let found : outcome_at work c.unwrap-first.result.0 ≡ Some k.y = subst (λ p. outcome_at work p ≡ Some k.y) (sym first) (first_own work o n c.requires.work k).0 in
-    passes_first work o n c.requires.work k c.unwrap-first.result.0 _ _ _ first
-    (c.set_through.ensures.plain k.y found ∙ ap₂ (λ m x. set_through work m x k.y) c.entry_of-entry.ensures.into (c.entry_of-entry.ensures.plain k.x k.found))
-    (omega (arith, c.requires.nodes, c.set_through.ensures.nodes)) (omega (arith, c.requires.outcomes, c.set_through.ensures.outcomes))
+  next : (y : WorkOutcome) × (rest : List WorkOutcome) × (c.loop-i.invariant.rest ≡ y ∷ rest) × (slice_get from.outcomes c.loop-i.i ≡ Some y) × (z : WorkOutcome) × (slice_get to.outcomes c.loop-i.i ≡ Some z) × (z.atom ≡ y.atom) × (y.atom ≡ n → z ≡ y)
+  next = next_of from n x c.requires.work entry c.loop-i.i to c.loop-i.is_first c.loop-i.w.spare_nodes c.loop-i.w.spare_outcomes c.loop-i.invariant within
 
-pub add_through-requires-clause-left : goal.add_through-requires-clause-left
-add_through-requires-clause-left c =
-    let work = c.args.w.now.plain in
-    let o = c.args.o.0 in
-    let n = c.args.n.0 in
-    let k = entrance_from work o n c.requires.work c.requires.guard in
-    let z = found_of_atom n (outcome_at c.loop-p.w.plain c.loop-p.p) (sym c.is_of.ensures ∙ c.if-is_of.true) in
-    (may_pass_as c.loop-p.w.plain n c.entry_of-entry.result.into.0 c.loop-p.p c.loop-p.p (passing n k.x) (plain_entry c.entry_of-entry.result) c.entry_of-entry.ensures.into (c.entry_of-entry.ensures.plain k.x k.found) refl
-    (may_pass work o n c.requires.work k c.loop-p.p _ _ c.loop-p.w.plain (c.loop-p.invariant k) z.0 z.1 z.2)).left
+  -- what is read is what stands at the place
+  read : plain_outcome c.copy-y.result ≡ next.4
+  read =
+      let items = c.outcomes.result.now in
+      let seen = length-map items plain_outcome in
+      let same = ap length c.outcomes.ensures in
+      let made = ap (λ (w : PlainWork). length w.outcomes) c.loop-i.invariant.made in
+      let more = more_places from n x c.requires.work entry (of_atom n c.loop-i.invariant.done) in
+      let there : c.loop-i.i < length items = omega (arith, within, seen, same, made, more) in
+      let at : slice_get to.outcomes c.loop-i.i ≡ Some (plain_outcome c.index-outcomes-i.result) =
+      ap (λ (zs : List WorkOutcome). slice_get zs c.loop-i.i) (sym c.outcomes.ensures) ∙ (slice_get-map plain_outcome items c.loop-i.i
+      ∙ ap (option_map plain_outcome) (slice_get_read items (length items) c.loop-i.i c.index-outcomes-i.result refl there c.index-outcomes-i.is)) in
+      c.copy-y.ensures ∙ same_Some (plain_outcome c.index-outcomes-i.result) next.4 (sym at ∙ next.5)
 
-pub add_through-requires-clause-fit : goal.add_through-requires-clause-fit
-add_through-requires-clause-fit c =
-    let work = c.args.w.now.plain in
-    let o = c.args.o.0 in
-    let n = c.args.n.0 in
-    let k = entrance_from work o n c.requires.work c.requires.guard in
-    let z = found_of_atom n (outcome_at c.loop-p.w.plain c.loop-p.p) (sym c.is_of.ensures ∙ c.if-is_of.true) in
-    (may_pass_as c.loop-p.w.plain n c.entry_of-entry.result.into.0 c.loop-p.p c.loop-p.p (passing n k.x) (plain_entry c.entry_of-entry.result) c.entry_of-entry.ensures.into (c.entry_of-entry.ensures.plain k.x k.found) refl
-    (may_pass work o n c.requires.work k c.loop-p.p _ _ c.loop-p.w.plain (c.loop-p.invariant k) z.0 z.1 z.2)).fit
+  atom : c.copy-y.result.atom.0 ≡ next.0.atom
+  atom = ap (λ (z : WorkOutcome). z.atom) read ∙ next.6
 
-pub add_through-requires-clause-leads : goal.add_through-requires-clause-leads
-add_through-requires-clause-leads c =
-    let work = c.args.w.now.plain in
-    let o = c.args.o.0 in
-    let n = c.args.n.0 in
-    let k = entrance_from work o n c.requires.work c.requires.guard in
-    let z = found_of_atom n (outcome_at c.loop-p.w.plain c.loop-p.p) (sym c.is_of.ensures ∙ c.if-is_of.true) in
-    (may_pass_as c.loop-p.w.plain n c.entry_of-entry.result.into.0 c.loop-p.p c.loop-p.p (passing n k.x) (plain_entry c.entry_of-entry.result) c.entry_of-entry.ensures.into (c.entry_of-entry.ensures.plain k.x k.found) refl
-    (may_pass work o n c.requires.work k c.loop-p.p _ _ c.loop-p.w.plain (c.loop-p.invariant k) z.0 z.1 z.2)).leads
+  module _ (test : c.eq.result ≡ true) where
+    own : next.0.atom ≡ n
+    own = sym atom ∙ eqb-true c.copy-y.result.atom.0 n (sym c.eq.ensures ∙ test)
 
-pub add_through-requires-clause-there : goal.add_through-requires-clause-there
-add_through-requires-clause-there c =
-    let work = c.args.w.now.plain in
-    let o = c.args.o.0 in
-    let n = c.args.n.0 in
-    let k = entrance_from work o n c.requires.work c.requires.guard in
-    let z = found_of_atom n (outcome_at c.loop-p.w.plain c.loop-p.p) (sym c.is_of.ensures ∙ c.if-is_of.true) in
-    (may_pass_as c.loop-p.w.plain n c.entry_of-entry.result.into.0 c.loop-p.p c.loop-p.p (passing n k.x) (plain_entry c.entry_of-entry.result) c.entry_of-entry.ensures.into (c.entry_of-entry.ensures.plain k.x k.found) refl
-    (may_pass work o n c.requires.work k c.loop-p.p _ _ c.loop-p.w.plain (c.loop-p.invariant k) z.0 z.1 z.2)).there
+    same : plain_outcome c.copy-y.result ≡ next.0
+    same = read ∙ next.7 own
 
-pub add_through-requires-clause-atom : goal.add_through-requires-clause-atom
-add_through-requires-clause-atom c =
-    let work = c.args.w.now.plain in
-    let o = c.args.o.0 in
-    let n = c.args.n.0 in
-    let k = entrance_from work o n c.requires.work c.requires.guard in
-    let z = found_of_atom n (outcome_at c.loop-p.w.plain c.loop-p.p) (sym c.is_of.ensures ∙ c.if-is_of.true) in
-    (may_pass_as c.loop-p.w.plain n c.entry_of-entry.result.into.0 c.loop-p.p c.loop-p.p (passing n k.x) (plain_entry c.entry_of-entry.result) c.entry_of-entry.ensures.into (c.entry_of-entry.ensures.plain k.x k.found) refl
-    (may_pass work o n c.requires.work k c.loop-p.p _ _ c.loop-p.w.plain (c.loop-p.invariant k) z.0 z.1 z.2)).atom
+pub pass-requires-clause-pass : goal.pass-requires-clause-pass
+pass-requires-clause-pass c =
+    let b = (goal.at.pass-requires-clause-pass c).After-eq in
+    let k = next b in
+    subst (MayPass c.loop-i.w.plain c.args.n.0 (plain_outcome c.args.x.now)) (sym (same b c.if-eq.true))
+    (may_pass_next (from b) (n b) (x b) c.requires.work (entry b) c.loop-i.i c.loop-i.w.plain c.loop-i.is_first c.loop-i.w.spare_nodes c.loop-i.w.spare_outcomes c.loop-i.invariant k.0 k.1 k.2 k.3 (own b c.if-eq.true))
 
-pub add_through-requires-clause-spare : goal.add_through-requires-clause-spare
-add_through-requires-clause-spare c =
-    let work = c.args.w.now.plain in
-    let o = c.args.o.0 in
-    let n = c.args.n.0 in
-    let k = entrance_from work o n c.requires.work c.requires.guard in
-    let z = found_of_atom n (outcome_at c.loop-p.w.plain c.loop-p.p) (sym c.is_of.ensures ∙ c.if-is_of.true) in
-    (passes_room work o n c.requires.work k c.loop-p.p _ _ c.loop-p.w.plain (c.loop-p.invariant k) z.0 z.1 z.2).0
+pub pass-requires-clause-spare : goal.pass-requires-clause-spare
+pass-requires-clause-spare c =
+    let b = (goal.at.pass-requires-clause-spare c).After-eq in
+    let k = next b in
+    (room_next (from b) (n b) (x b) c.requires.work (entry b) c.loop-i.i c.loop-i.w.plain c.loop-i.is_first c.loop-i.w.spare_nodes c.loop-i.w.spare_outcomes c.loop-i.invariant k.0 k.1 k.2 k.3 (own b c.if-eq.true)).0
 
-pub add_through-requires-clause-number : goal.add_through-requires-clause-number
-add_through-requires-clause-number c =
-    let work = c.args.w.now.plain in
-    let o = c.args.o.0 in
-    let n = c.args.n.0 in
-    let k = entrance_from work o n c.requires.work c.requires.guard in
-    let z = found_of_atom n (outcome_at c.loop-p.w.plain c.loop-p.p) (sym c.is_of.ensures ∙ c.if-is_of.true) in
-    (passes_room work o n c.requires.work k c.loop-p.p _ _ c.loop-p.w.plain (c.loop-p.invariant k) z.0 z.1 z.2).1
+pub pass-requires-clause-number : goal.pass-requires-clause-number
+pass-requires-clause-number c =
+    let b = (goal.at.pass-requires-clause-number c).After-eq in
+    let k = next b in
+    (room_next (from b) (n b) (x b) c.requires.work (entry b) c.loop-i.i c.loop-i.w.plain c.loop-i.is_first c.loop-i.w.spare_nodes c.loop-i.w.spare_outcomes c.loop-i.invariant k.0 k.1 k.2 k.3 (own b c.if-eq.true)).1
 
-pub loop-p-preserved : goal.loop-p-preserved
-loop-p-preserved c =
-    let work = c.args.w.now.plain in
-    let o = c.args.o.0 in
-    let n = c.args.n.0 in
-    let p = c.loop-p.p in
-    λ k. elim c.if-is_of.branch [
-      | then-is_of w ↦
-          let z = found_of_atom n (outcome_at c.loop-p.w.plain p) (sym c.is_of.ensures ∙ w.if-is_of.true) in
-          subst (λ v. Passes work n k.x k.y k.ys (p + 1) v.plain v.spare_nodes v.spare_outcomes) (sym w.w-is)
-          (passes_more work o n c.requires.work k p _ _ c.loop-p.w.plain (c.loop-p.invariant k) z.0 w.add_through.new.w.plain w.add_through.new.w.spare_nodes w.add_through.new.w.spare_outcomes z.1 z.2
-          (w.add_through.ensures.plain z.0 z.1 ∙ ap₂ (λ m x. add_through c.loop-p.w.plain m x z.0) c.entry_of-entry.ensures.into (c.entry_of-entry.ensures.plain k.x k.found))
-          w.add_through.ensures.nodes w.add_through.ensures.outcomes)
-      | else-is_of w ↦
-          subst (λ v. Passes work n k.x k.y k.ys (p + 1) v.plain v.spare_nodes v.spare_outcomes) (sym w.w-is)
-          (passes_over work o n c.requires.work k p _ _ c.loop-p.w.plain (c.loop-p.invariant k) (none_of_atom n (outcome_at c.loop-p.w.plain p) (sym c.is_of.ensures ∙ w.if-is_of.false)))
+pub loop-i-preserved : goal.loop-i-preserved
+loop-i-preserved c =
+    let b = (goal.at.loop-i-preserved c).After-eq in
+    let k = next b in
+    elim c.if-eq.branch [
+      | then-eq w ↦
+          let mine = own b w.if-eq.true in
+          let passed = own_passed (from b) (n b) (x b) c.requires.work (entry b) c.loop-i.i c.loop-i.w.plain c.loop-i.is_first c.loop-i.w.spare_nodes c.loop-i.w.spare_outcomes c.loop-i.invariant k.0 k.1 k.2 k.3
+          w.pass.new.w.spare_nodes w.pass.new.w.spare_outcomes mine w.pass.ensures.nodes w.pass.ensures.outcomes in
+          rw (w.w-is, w.is_first-is)
+          (subst (λ v. IsUpTo (from b) (n b) (x b) (c.loop-i.i + 1) v false w.pass.new.w.spare_nodes w.pass.new.w.spare_outcomes)
+          (sym (w.pass.ensures.plain ∙ ap (λ y. passed_one c.loop-i.w.plain (n b) (x b) y c.loop-i.is_first) (same b w.if-eq.true))) passed)
+      | else-eq w ↦
+          rw (w.w-is, w.is_first-is)
+          (other_passed (from b) (n b) (x b) c.requires.work (entry b) c.loop-i.i c.loop-i.w.plain c.loop-i.is_first c.loop-i.w.spare_nodes c.loop-i.w.spare_outcomes c.loop-i.invariant k.0 k.1 k.2 k.3
+          (λ e. eqb-false c.copy-y.result.atom.0 (n b) (sym c.eq.ensures ∙ w.if-eq.false) (atom b ∙ e)))
     ]
-
-pub returns : goal.returns
-returns c =
-    let work = c.args.w.now.plain in
-    let o = c.args.o.0 in
-    let n = c.args.n.0 in
-    let k = entrance_from work o n c.requires.work c.requires.guard in
-    λ x e.
-    passes_all work o n c.requires.work k c.loop-p.p _ _ c.loop-p.w.plain (c.loop-p.invariant k) (omega (arith, c.loop-p-test.false, c.numbers-numbers.ensures))
-    ∙ ap (λ v. entered_by work n v (outcomes_at work n)) (same_Some k.x x (sym k.found ∙ e))
