@@ -2,7 +2,7 @@
 use Rattle.std.proofs.Common.{◌≡◌, ◌∙◌, ℕ, List, [], ◌∷◌, ◌++◌, ap, refl, append_assoc}
 use Rattle.std.specs.Prelude.{codes, decimal}
 use Rattle.nego_expr.specs.Use.{PlainUse}
-use Rattle.nego_expr.specs.SummaryText.{Appends}
+use Rattle.nego_base.specs.Appending.{Appends}
 use Rattle.nego_cli.specs.Certificate.{use_line, use_lines, certificate_text, sound_line}
 
 -- the lines of uses and of one more

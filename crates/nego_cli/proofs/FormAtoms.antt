@@ -19,7 +19,7 @@ use Rattle.nego_shape.specs.Answers.{OrderHolds, numbers}
 use Rattle.nego_shape.specs.Ordering.{IsCycle}
 use Rattle.nego_shape.specs.declared.answer.Order.{Order}
 use Rattle.nego_shape.specs.declared.answer.Order.TheVariants.{Acyclic, Cycle}
-use Rattle.nego_expr.specs.SummaryText.{Appends}
+use Rattle.nego_base.specs.Appending.{Appends}
 use Rattle.nego_cli.specs.FormText.{AreAtoms, choice_numbers, count_line, choice_line, atom_words, order_line, form_text}
 
 -- what holds of the numbers of atoms

@@ -1,6 +1,7 @@
 pub mod BehindName
 pub mod FirstWord
 pub mod SplitLaws
+pub mod NextUses
 pub mod NumberWords
 pub mod WordLaws
 pub mod NarrowWorks
@@ -10,7 +11,6 @@ pub mod UsesLead
 pub mod NarrowFresh
 pub mod LeastMerge
 pub mod CertificateLines
-pub mod OnlyMemory
 pub mod NarrowTests
 pub mod FormAtoms
 pub mod NamedPlaces

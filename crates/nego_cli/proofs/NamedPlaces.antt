@@ -8,7 +8,7 @@ use Rattle.std.proofs.lemmas.Option.{none-some, slice_get-map, unwrap_or-slice_g
 use Rattle.nego_data.specs.Data.{data_count, split}
 use Rattle.nego_data.specs.Sizes.{tuple_of}
 use Rattle.nego_model.specs.Diagram.{agent_name, atom_name, atom_of, outcome_name}
-use Rattle.nego_expr.specs.SummaryText.{Appends}
+use Rattle.nego_base.specs.Appending.{Appends}
 use Rattle.nego_reader.specs.declared.parsed.Parsed.{Parsed}
 use Rattle.nego_reader.specs.declared.parsed.PAgent.{PAgent}
 use Rattle.nego_reader.specs.declared.parsed.PAtom.{PAtom}

@@ -7,8 +7,8 @@ use Rattle.std.proofs.lemmas.Bool.{and_parts, and_from, cases_eq, eqb-false, fal
 use Rattle.std.proofs.lemmas.List.{length-map}
 use Rattle.nego_base.specs.Members.{is_in, all_in, without_member}
 use Rattle.nego_base.proofs.Members.{is_in-without, length-without, all_at, some_member}
-use Rattle.nego_expr.specs.Work.{WorkOutcome, PlainWork, outcome_at, work_parties, sent_to, IsWork}
-use Rattle.nego_expr.specs.Use.{Merge, Iterate, Shortcut, Close, same_target, outcomes_at, iterates, can_close, enters}
+use Rattle.nego_expr.specs.Work.{WorkOutcome, PlainWork, outcome_at, outcomes_at, work_parties, sent_to, IsWork}
+use Rattle.nego_expr.specs.Use.{Merge, Iterate, Shortcut, Close, same_target, iterates, allows, enters}
 use Rattle.nego_expr.proofs.WorkEdits.{All-found}
 use Rattle.nego_cli.specs.NarrowWork.{IsNarrow}
 use Rattle.nego_cli.specs.Order.{HasNoMerge, HasNoIteration, HasNoShortcut, IsNextUse, HasNoNextUse, IsDone, has_passed}
@@ -99,7 +99,7 @@ module _ (work : PlainWork) (ok : IsWork work) (narrow : IsNarrow work) where
   no_next_shortcut o n h = true≢false (sym h.2.taken ∙ no_shortcut o n)
 
   -- where no merge is allowed, closing is, if it is allowed
-  pub closing_next : HasNoMerge work → IsTrue (can_close work) → IsNextUse work Close
+  pub closing_next : HasNoMerge work → IsTrue (allows work Close) → IsNextUse work Close
   closing_next none closes = (none, no_iteration, no_shortcut, closes)
 
   -- where one atom is left, no use is
@@ -107,10 +107,10 @@ module _ (work : PlainWork) (ok : IsWork work) (narrow : IsNarrow work) where
   one_atom_no_use one (Merge o1 o2) h = let t = found_two work o1 o2 h.allowed in t.2.not_last (atom_is_last work o1 t.0 ok one t.2.first)
   one_atom_no_use one (Iterate o) h = no_next_iteration o h
   one_atom_no_use one (Shortcut o n) h = no_next_shortcut o n h
-  one_atom_no_use one Close h = let k : length work.atoms ≡ 2 = (may_close work h.3).two in let no_more : ⊥ = omega (arith, k, one) in no_more
+  one_atom_no_use one Close h = let k : length work.atoms ≡ 2 = (may_close work h.3).2.two in let no_more : ⊥ = omega (arith, k, one) in no_more
 
   -- where no merge is allowed and no closing, one atom is left and nothing is to be done
-  pub nothing_allowed_done : HasNoMerge work → can_close work ≡ false → IsDone work
+  pub nothing_allowed_done : HasNoMerge work → allows work Close ≡ false → IsDone work
   nothing_allowed_done none shut =
       let one : length work.atoms ≡ 1 = narrow.apart (first_is (cases_eq work.first work.last)) in
       record { one_atom = one; no_use = one_atom_no_use one }

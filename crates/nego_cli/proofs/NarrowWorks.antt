@@ -1,6 +1,6 @@
 -- Narrow works: what the guards say of them, and that closing is allowed where two atoms are left and no merge is.
 use Rattle.std.proofs.Common.{◌≡◌, ◌≢◌, ◌⊎◌, ⊎_elim, ℕ, suc, ◌+◌, ◌<◌, ◌≤◌, Bool, true, false, not, ◌==◌, ◌&&◌, cond, List, [], ◌∷◌, length, map, slice_index_or, Option, Some, None, IsTrue, refl, sym, subst, ap, ◌∙◌, arith, eq-eqb, ne_eqb, eqb-true}
-use Rattle.std.specs.Prelude.{nat_lt, filter}
+use Rattle.std.specs.Prelude.{nat_lt, filter, find}
 use Rattle.std.specs.List.{All, list_all, range_with_len}
 use Rattle.std.specs.Option.{option_map_or}
 use Rattle.std.proofs.lemmas.Bool.{and_parts, and_from, cond-false, eqb-false, false≢true, true≢false, not-true, not_from_false, ltb-true, lt-ltb}
@@ -9,8 +9,12 @@ use Rattle.std.proofs.lemmas.List.{length-map}
 use Rattle.std.proofs.lemmas.List.Elements.{All-head, All-tail, All-filter, filter_passes}
 use Rattle.nego_base.specs.Members.{is_in, RisesFrom}
 use Rattle.nego_base.proofs.Members.{is_in_none, is_in_single, is_in-range_zero, all_from}
-use Rattle.nego_expr.specs.Work.{WorkOutcome, PlainWork, outcome_among, outcome_at, work_parties, sent_to, IsWork}
-use Rattle.nego_expr.specs.Use.{same_target, merges, can_merge, merged, merged_of, without_outcome, outcomes_at, one_sends_all, can_close, closed, closed_by, closed_of}
+use Rattle.nego_expr.specs.Work.{outcomes_at, WorkOutcome, PlainWork, outcome_among, outcome_at, work_parties, sent_to, IsWork}
+use Rattle.nego_expr.specs.Use.{Merge, Close, same_target, send_alike, sends_all, merges, closes, allows, opening_outcome}
+use Rattle.nego_expr.specs.Edits.{without_outcome}
+use Rattle.nego_expr.proofs.EditCalls.{allowed_at, found_itself}
+use Rattle.nego_merge.proofs.MergeKeeps.{merges_parts, allowed-pair}
+use Rattle.nego_shortcut.proofs.CloseKeeps.{Closes, closes_parts, closes-one}
 use Rattle.nego_expr.proofs.Alive.{each_found}
 use Rattle.nego_expr.proofs.WorkEdits.{numbers_of, All-found, found_cases, rises-passing}
 use Rattle.nego_cli.specs.NarrowWork.{IsNarrow}
@@ -54,6 +58,15 @@ fewer_without (y ∷ ys) o x h = ⊎_elim (λ k. here k.0) (λ k. later (not (y.
     later true m = omega (arith, m)
     later false m = omega (arith, m)
 
+-- the first of those that pass a test is found
+find_first : (test : WorkOutcome → Bool) (zs : List WorkOutcome) (x : WorkOutcome) (ws : List WorkOutcome) → filter test zs ≡ x ∷ ws → find test zs ≡ Some x
+find_first test [] x ws h = cc
+find_first test (z ∷ zs) x ws h = go (test z) h (find_first test zs x ws)
+  where
+    go : (b : Bool) → cond b (z ∷ filter test zs) (filter test zs) ≡ x ∷ ws → (filter test zs ≡ x ∷ ws → find test zs ≡ Some x) → cond b (Some z) (find test zs) ≡ Some x
+    go true f more = let e : z ≡ x = cc in ap Some e
+    go false f more = more f
+
 -- ---- what the guards say
 
 -- Two outcomes that are found and merge: they are of one atom, which isn't the last.
@@ -62,42 +75,18 @@ pub record FoundTwo (work : PlainWork) (o1 o2 : ℕ) (x y : WorkOutcome) : Type 
   pub second : outcome_at work o2 ≡ Some y
   pub not_last : x.atom ≢ work.last
 
-pub found_two : (work : PlainWork) (o1 o2 : ℕ) → IsTrue (can_merge work o1 o2) → (x : WorkOutcome) × (y : WorkOutcome) × FoundTwo work o1 o2 x y
-found_two work o1 o2 h = go (outcome_at work o1) (outcome_at work o2) refl refl (and_parts (nat_lt o1 o2) (merges work (outcome_at work o1) (outcome_at work o2)) h).1
-  where
-    go : (f g : Option WorkOutcome) → outcome_at work o1 ≡ f → outcome_at work o2 ≡ g → IsTrue (merges work f g) → (x : WorkOutcome) × (y : WorkOutcome) × FoundTwo work o1 o2 x y
-    go None g e k m = absurd (false≢true m)
-    go (Some x) None e k m = absurd (false≢true m)
-    go (Some x) (Some y) e k m =
-        let alike : Bool = list_all (λ a. same_target (sent_to x a) (sent_to y a)) (work_parties work x.atom) in
-        let p = and_parts (x.atom == y.atom) (not (x.atom == work.last) && alike) m in
-        let q = and_parts (not (x.atom == work.last)) alike p.1 in
-        (x, y, record { first = e; second = k; not_last = eqb-false x.atom work.last (not-true (x.atom == work.last) q.0) })
+pub found_two : (work : PlainWork) (o1 o2 : ℕ) → IsTrue (allows work (Merge o1 o2)) → (x : WorkOutcome) × (y : WorkOutcome) × FoundTwo work o1 o2 x y
+found_two work o1 o2 h =
+    let one = allowed_at (λ z. option_map_or (merges work z) (outcome_at work o2) false) (outcome_at work o1) h in
+    let two = allowed_at (merges work one.0) (outcome_at work o2) one.2 in
+    let parts = merges_parts work one.0 two.0 (found_itself work o1 one.0 one.1) (found_itself work o2 two.0 two.1) two.2 in
+    (one.0, two.0, record { first = one.1; second = two.1; not_last = parts.not_last })
 
 -- what the guard of a closing says
-pub record MayClose (work : PlainWork) : Type 0 where
-  pub two : length work.atoms ≡ 2
-  pub apart : work.first ≢ work.last
-  pub only : IsTrue (one_sends_all work.agents work.last (outcomes_at work work.first))
-
-pub may_close : (work : PlainWork) → IsTrue (can_close work) → MayClose work
+pub may_close : (work : PlainWork) → IsTrue (allows work Close) → (x : WorkOutcome) × (opening_outcome work ≡ Some x) × Closes work x
 may_close work h =
-    let only : Bool = one_sends_all work.agents work.last (outcomes_at work work.first) in
-    let p = and_parts (length work.atoms == 2) (not (work.first == work.last) && only) h in
-    let q = and_parts (not (work.first == work.last)) only p.1 in
-    record { two = eqb-true (length work.atoms) 2 p.0; apart = eqb-false work.first work.last (not-true (work.first == work.last) q.0); only = q.1 }
-
-pub merged_is : (work : PlainWork) (o1 o2 : ℕ) (x y : WorkOutcome) → FoundTwo work o1 o2 x y → merged work o1 o2 ≡ merged_of work x y
-merged_is work o1 o2 x y two =
-    ap (λ f. option_map_or (λ v. option_map_or (λ w. merged_of work v w) (outcome_at work o2) work) f work) two.first
-    ∙ ap (λ g. option_map_or (λ w. merged_of work x w) g work) two.second
-
-pub closed_is : (work : PlainWork) → IsTrue (can_close work) → (x : WorkOutcome) × (closed work ≡ closed_of work x)
-closed_is work h = go (outcomes_at work work.first) (may_close work h).only
-  where
-    go : (xs : List WorkOutcome) → IsTrue (one_sends_all work.agents work.last xs) → (x : WorkOutcome) × (closed_by work xs ≡ closed_of work x)
-    go [] k = absurd (false≢true k)
-    go (x ∷ xs) k = (x, refl)
+    let k = allowed_at (closes work) (opening_outcome work) h in
+    (k.0, k.1, closes_parts work k.0 k.1 k.2)
 
 -- ---- one atom
 
@@ -127,16 +116,17 @@ module _ (work : PlainWork) (ok : IsWork work) (narrow : IsNarrow work) where
   first_found = All-filter (λ z. z.atom == work.first) (λ z. outcome_at work z.number ≡ Some z) work.outcomes (each_found work.outcomes ok.numbers_rise)
 
   -- where it has one outcome, closing is allowed
-  one_closes : (x : WorkOutcome) → work.first ≢ work.last → outcomes_at work work.first ≡ x ∷ [] → IsTrue (can_close work)
+  one_closes : (x : WorkOutcome) → work.first ≢ work.last → outcomes_at work work.first ≡ x ∷ [] → IsTrue (allows work Close)
   one_closes x other e =
       let sends : (a : ℕ) → IsTrue (is_in a (range_with_len 0 work.agents)) → same_target (sent_to x a) (Some work.last) ≡ true = λ a h.
       let first : FirstSends x = All-head FirstSends x [] (subst (All FirstSends) e (first_sends other)) in
       ap (λ t. same_target t (Some work.last)) (first.1 a (ltb-true a work.agents (sym (is_in-range_zero a work.agents) ∙ h))) ∙ eq-eqb work.last work.last refl in
-      let only : one_sends_all work.agents work.last (outcomes_at work work.first) ≡ true =
-      ap (one_sends_all work.agents work.last) e ∙ all_from (λ a. same_target (sent_to x a) (Some work.last)) (range_with_len 0 work.agents) sends in
-      and_from (length work.atoms == 2) (not (work.first == work.last) && one_sends_all work.agents work.last (outcomes_at work work.first))
-      (eq-eqb (length work.atoms) 2 two)
-      (and_from (not (work.first == work.last)) (one_sends_all work.agents work.last (outcomes_at work work.first)) (not_from_false (work.first == work.last) (ne_eqb work.first work.last other)) only)
+      let single : Bool = length (outcomes_at work work.first) == 1 in
+      let all : Bool = sends_all (range_with_len 0 work.agents) work.last x in
+      closes-one work x (find_first (λ z. z.atom == work.first) work.outcomes x [] e)
+      ∙ and_from (length work.atoms == 2) (not (work.first == work.last) && (single && all)) (eq-eqb (length work.atoms) 2 two)
+      (and_from (not (work.first == work.last)) (single && all) (not_from_false (work.first == work.last) (ne_eqb work.first work.last other))
+      (and_from single all (eq-eqb (length (outcomes_at work work.first)) 1 (ap length e)) (all_from (λ a. same_target (sent_to x a) (Some work.last)) (range_with_len 0 work.agents) sends)))
     where
       two : length work.atoms ≡ 2
       two =
@@ -144,10 +134,10 @@ module _ (work : PlainWork) (ok : IsWork work) (narrow : IsNarrow work) where
           omega (arith, least, narrow.few_atoms, length-map work.atoms (λ atom. atom.number))
 
   -- where it has two outcomes, they merge
-  two_merge : (x y : WorkOutcome) (zs : List WorkOutcome) → work.first ≢ work.last → outcomes_at work work.first ≡ x ∷ y ∷ zs → IsTrue (can_merge work x.number y.number)
+  two_merge : (x y : WorkOutcome) (zs : List WorkOutcome) → work.first ≢ work.last → outcomes_at work work.first ≡ x ∷ y ∷ zs → IsTrue (allows work (Merge x.number y.number))
   two_merge x y zs other e =
-      and_from (nat_lt x.number y.number) (merges work (outcome_at work x.number) (outcome_at work y.number)) (lt-ltb x.number y.number below)
-      (ap (λ f. merges work f (outcome_at work y.number)) (All-head Found x (y ∷ zs) found) ∙ (ap (λ g. merges work (Some x) g) (All-head Found y zs (All-tail Found x (y ∷ zs) found)) ∙ both))
+      allowed-pair work x.number y.number x y (All-head Found x (y ∷ zs) found) (All-head Found y zs (All-tail Found x (y ∷ zs) found))
+      ∙ and_from (nat_lt x.number y.number) ((x.atom == y.atom) && (not (x.atom == work.last) && send_alike (work_parties work x.atom) x y)) (lt-ltb x.number y.number below) both
     where
       Found : WorkOutcome → Type 0
       Found z = outcome_at work z.number ≡ Some z
@@ -176,19 +166,19 @@ module _ (work : PlainWork) (ok : IsWork work) (narrow : IsNarrow work) where
           let below : a < work.agents = ok.form.party_below work.first a ok.form.first_there party in
           ap (λ t. same_target t (sent_to y a)) (first.1 a below) ∙ (ap (λ t. same_target (Some work.last) t) (second.1 a below) ∙ eq-eqb work.last work.last refl)
 
-      both : IsTrue (merges work (Some x) (Some y))
+      both : IsTrue ((x.atom == y.atom) && (not (x.atom == work.last) && send_alike (work_parties work x.atom) x y))
       both =
-          and_from (x.atom == y.atom) (not (x.atom == work.last) && list_all (λ a. same_target (sent_to x a) (sent_to y a)) (work_parties work x.atom))
+          and_from (x.atom == y.atom) (not (x.atom == work.last) && send_alike (work_parties work x.atom) x y)
           (eq-eqb x.atom y.atom (first.0 ∙ sym second.0))
-          (and_from (not (x.atom == work.last)) (list_all (λ a. same_target (sent_to x a) (sent_to y a)) (work_parties work x.atom))
+          (and_from (not (x.atom == work.last)) (send_alike (work_parties work x.atom) x y)
           (not_from_false (x.atom == work.last) (ne_eqb x.atom work.last (λ q. other (sym first.0 ∙ q))))
           (all_from (λ a. same_target (sent_to x a) (sent_to y a)) (work_parties work x.atom) same))
 
   -- where two atoms are left and no merge is allowed, closing is
-  pub no_merge_closes : work.first ≢ work.last → HasNoMerge work → IsTrue (can_close work)
+  pub no_merge_closes : work.first ≢ work.last → HasNoMerge work → IsTrue (allows work Close)
   no_merge_closes other none = go (outcomes_at work work.first) refl
     where
-      go : (xs : List WorkOutcome) → outcomes_at work work.first ≡ xs → IsTrue (can_close work)
+      go : (xs : List WorkOutcome) → outcomes_at work work.first ≡ xs → IsTrue (allows work Close)
       go [] e = absurd (ok.form.some_outcome work.first ok.form.first_there (ap numbers_of e))
       go (x ∷ []) e = one_closes x other e
       go (x ∷ y ∷ zs) e = absurd (true≢false (sym (two_merge x y zs other e) ∙ none x.number y.number))

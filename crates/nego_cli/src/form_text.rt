@@ -3,7 +3,7 @@
 ghost use Rattle.std.specs.Prelude.{◌<◌, ◌++◌, codes, length, IfOk, OnOk, IfSome, All};
 ghost use Rattle.nego_data.specs.Data.{data_count};
 ghost use Rattle.nego_model.specs.Diagram.{IsDiagram, atom_name};
-ghost use Rattle.nego_expr.specs.SummaryText.{Appends};
+ghost use Rattle.nego_base.specs.Appending.{Appends};
 ghost use Rattle.nego_cli.specs.Check.{IsFormOf};
 ghost use Rattle.nego_model.specs.Undetermined.{IsFirstUndetermined};
 ghost use Rattle.nego_cli.specs.FormText.{count_line, choice_line, atom_words, order_line, choice_numbers, AreAtoms};

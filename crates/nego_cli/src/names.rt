@@ -1,7 +1,7 @@
 //! The names of outcomes and agents in a text.
 
 ghost use Rattle.std.specs.Prelude.{◌<◌, length, OnOk};
-ghost use Rattle.nego_expr.specs.SummaryText.{Appends};
+ghost use Rattle.nego_base.specs.Appending.{Appends};
 ghost use Rattle.nego_cli.specs.Refusals.{choice_words};
 
 use nego_base::{AgentId, Memory, OutcomeId, Text};

@@ -3,11 +3,11 @@
 
 ghost use Rattle.std.specs.Prelude.{◌≡◌, ◌≢◌, ℕ, ◌<◌, false, IsTrue, IfSome, IfNone, Err, IsOk, OnOk, IfOk, map};
 ghost use Rattle.nego_expr.specs.Work.{IsWork};
-ghost use Rattle.nego_expr.specs.Use.{can_merge, can_close};
+ghost use Rattle.nego_expr.specs.Use.{Merge, Close, after_use, allows};
 ghost use Rattle.nego_expr.specs.SummaryText.{plain_summary};
-ghost use Rattle.nego_expr.specs.Uses.{plain_use};
+ghost use Rattle.nego_expr.specs.UseView.{plain_use};
 ghost use Rattle.nego_cli.specs.NarrowWork.{IsNarrow};
-ghost use Rattle.nego_cli.specs.Order.{IsLeastMerge, HasNoMerge, IsNextUse, Reduces, after_use};
+ghost use Rattle.nego_cli.specs.Order.{IsLeastMerge, HasNoMerge, IsNextUse, Reduces};
 
 use nego_base::{Memory, OutcomeId};
 use nego_expr::{RuleFault, Summary, Use, Uses, Work};
@@ -25,13 +25,13 @@ pub(crate) struct Reduction {
 /// The least outcome with which the outcome merges.
 fn partner(w: &Work, o1: OutcomeId) -> Option<OutcomeId>
     requires work { IsWork w.now.plain }
-    ensures allowed { IfSome result (λ o2. IsTrue (can_merge w.now.plain o1.0 o2.0)) }
-    ensures least { IfSome result (λ o2. (p2 : ℕ) → p2 < o2.0 → can_merge w.now.plain o1.0 p2 ≡ false) }
-    ensures none { IfNone result ((p2 : ℕ) → can_merge w.now.plain o1.0 p2 ≡ false) }
+    ensures allowed { IfSome result (λ o2. IsTrue (allows w.now.plain (Merge o1.0 o2.0))) }
+    ensures least { IfSome result (λ o2. (p2 : ℕ) → p2 < o2.0 → allows w.now.plain (Merge o1.0 p2) ≡ false) }
+    ensures none { IfNone result ((p2 : ℕ) → allows w.now.plain (Merge o1.0 p2) ≡ false) }
 {
-    for o2 in 0..w.numbers() {
-        if can_merge(w, o1, OutcomeId(o2)) {
-            return Some(OutcomeId(o2));
+    for y in w.outcomes() {
+        if can_merge(w, o1, y.number) {
+            return Some(y.number);
         }
     }
     None
@@ -43,9 +43,9 @@ fn least_merge(w: &Work) -> Option<(OutcomeId, OutcomeId)>
     ensures some { IfSome result (λ pair. IsLeastMerge w.now.plain pair.0.0 pair.1.0) }
     ensures none { IfNone result (HasNoMerge w.now.plain) }
 {
-    for o1 in 0..w.numbers() {
-        if let Some(o2) = partner(w, OutcomeId(o1)) {
-            return Some((OutcomeId(o1), o2));
+    for x in w.outcomes() {
+        if let Some(o2) = partner(w, x.number) {
+            return Some((x.number, o2));
         }
     }
     None
@@ -57,7 +57,7 @@ fn next_use(w: &Work) -> Option<Use>
     requires narrow { IsNarrow w.now.plain }
     ensures some { IfSome result (λ u. IsNextUse w.now.plain (plain_use u)) }
     ensures no_merge { IfNone result (HasNoMerge w.now.plain) }
-    ensures no_closing { IfNone result (can_close w.now.plain ≡ false) }
+    ensures no_closing { IfNone result (allows w.now.plain Close ≡ false) }
 {
     if let Some((o1, o2)) = least_merge(w) {
         return Some(Use::Merge(o1, o2));

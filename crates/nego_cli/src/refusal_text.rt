@@ -1,7 +1,7 @@
 //! The line that says why an input is refused, which is built before it is written.
 
 ghost use Rattle.std.specs.Prelude.{◌≡◌, IfOk, OnOk};
-ghost use Rattle.nego_expr.specs.SummaryText.{Appends};
+ghost use Rattle.nego_base.specs.Appending.{Appends};
 ghost use Rattle.nego_cli.specs.Refusals.{IsNamed, fault_words, kind_name, part_name, place_words, refusal_words, refusal_line};
 
 use crate::failure::{PartName, Refusal};

@@ -7,7 +7,7 @@ ghost use Rattle.nego_model.specs.Diagram.{agent_name, atom_name, outcome_name, 
 ghost use Rattle.nego_reader.specs.Content.{content_of};
 ghost use Rattle.nego_shape.specs.Answer.{AreJointIn};
 ghost use Rattle.nego_shape.specs.Naming.{sizes_in};
-ghost use Rattle.nego_expr.specs.SummaryText.{Appends};
+ghost use Rattle.nego_base.specs.Appending.{Appends};
 ghost use Rattle.nego_cli.specs.Refusals.{diagram_of, many_name, outcome_words, choice_words, value_words, shape_words};
 
 use nego_base::{AgentId, Memory, OutcomeId, Text};

@@ -1,10 +1,10 @@
 use Rattle.std.proofs.Common.{◌∙◌, ◌++◌, map, take, ap, sym, subst, slice_index_or, refl}
 use Rattle.nego_expr.specs.declared.uses.Use.TheVariants.{Merge}
-use Rattle.nego_expr.specs.SummaryText.{Appends}
+use Rattle.nego_base.specs.Appending.{Appends}
 use Rattle.nego_expr.proofs.Printing.{appends_then}
 use Rattle.nego_expr.proofs.Seen.{map-take_more}
 use Rattle.nego_cli.specs.Certificate.{use_line, use_lines}
-use Rattle.nego_expr.specs.Uses.{plain_use}
+use Rattle.nego_expr.specs.UseView.{plain_use}
 use Rattle.nego_cli.proofs.CertificateLines.{use_lines-more}
 use Rattle.nego_cli.proofs.certificate.add_uses.Goals as goal
 

@@ -1,7 +1,7 @@
 use Rattle.std.proofs.Common.{map, take}
-use Rattle.nego_expr.specs.SummaryText.{Appends}
+use Rattle.nego_base.specs.Appending.{Appends}
 use Rattle.nego_cli.specs.Certificate.{use_lines}
-use Rattle.nego_expr.specs.Uses.{plain_use}
+use Rattle.nego_expr.specs.UseView.{plain_use}
 use Rattle.nego_cli.proofs.certificate.add_uses.Given as goal
 
 -- the lines of the uses so far

@@ -1,8 +1,9 @@
 use Rattle.std.proofs.Common.{◌≡◌, ◌∙◌, ◌++◌, length, map, ap, sym, subst}
 use Rattle.std.proofs.lemmas.List.{length-map}
-use Rattle.nego_expr.specs.SummaryText.{Appends, plain_summary, summary_text}
+use Rattle.nego_base.specs.Appending.{Appends}
+use Rattle.nego_expr.specs.SummaryText.{plain_summary, summary_text}
 use Rattle.nego_cli.specs.Certificate.{use_lines, certificate_text, sound_line}
-use Rattle.nego_expr.specs.Uses.{plain_use}
+use Rattle.nego_expr.specs.UseView.{plain_use}
 use Rattle.nego_cli.proofs.CertificateLines.{printed}
 use Rattle.nego_cli.proofs.certificate.print_reduction.Goals as goal
 

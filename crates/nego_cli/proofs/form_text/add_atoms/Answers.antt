@@ -3,7 +3,7 @@ use Rattle.std.specs.Prelude.{codes}
 use Rattle.std.proofs.lemmas.List.{take_more}
 use Rattle.nego_base.specs.declared.ids.AtomId.{AtomId}
 use Rattle.nego_model.specs.Diagram.{atom_name}
-use Rattle.nego_expr.specs.SummaryText.{Appends}
+use Rattle.nego_base.specs.Appending.{Appends}
 use Rattle.nego_expr.proofs.Printing.{appends_then}
 use Rattle.nego_cli.specs.FormText.{atom_words}
 use Rattle.nego_cli.proofs.FormAtoms.{atom_words-more}

@@ -1,5 +1,5 @@
 use Rattle.std.proofs.Common.{take}
-use Rattle.nego_expr.specs.SummaryText.{Appends}
+use Rattle.nego_base.specs.Appending.{Appends}
 use Rattle.nego_cli.specs.FormText.{atom_words}
 use Rattle.nego_cli.proofs.form_text.add_atoms.Given as goal
 

@@ -2,7 +2,7 @@ use Rattle.std.proofs.Common.{◌++◌, sym, subst}
 use Rattle.std.specs.Prelude.{OnOk, codes}
 use Rattle.nego_model.specs.Diagram.{atom_name}
 use Rattle.nego_shape.specs.Answer.{AreJointIn}
-use Rattle.nego_expr.specs.SummaryText.{Appends}
+use Rattle.nego_base.specs.Appending.{Appends}
 use Rattle.nego_expr.proofs.Printing.{appends_then}
 use Rattle.nego_cli.specs.Refusals.{diagram_of, choice_words, shape_words}
 use Rattle.nego_cli.proofs.NamedPlaces.{then_ok}

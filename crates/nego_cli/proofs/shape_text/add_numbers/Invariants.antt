@@ -1,5 +1,5 @@
 use Rattle.std.proofs.Common.{take}
-use Rattle.nego_expr.specs.SummaryText.{Appends}
+use Rattle.nego_base.specs.Appending.{Appends}
 use Rattle.nego_cli.specs.Refusals.{value_words}
 use Rattle.nego_cli.proofs.shape_text.add_numbers.Given as goal
 

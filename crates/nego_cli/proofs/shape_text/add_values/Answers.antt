@@ -3,7 +3,7 @@ use Rattle.std.specs.Prelude.{OnOk}
 use Rattle.nego_data.specs.Data.{split}
 use Rattle.nego_reader.specs.Content.{content_of}
 use Rattle.nego_shape.specs.Naming.{sizes_in}
-use Rattle.nego_expr.specs.SummaryText.{Appends}
+use Rattle.nego_base.specs.Appending.{Appends}
 use Rattle.nego_cli.specs.Refusals.{value_words}
 use Rattle.nego_cli.proofs.NamedPlaces.{front_values}
 use Rattle.nego_cli.proofs.shape_text.add_values.Goals as goal
