@@ -15,6 +15,7 @@ use Rattle.nego_shape.specs.Answer.{AreJointIn}
 use Rattle.nego_shape.specs.Faults.{form_fault, not_total, shape_fault}
 use Rattle.nego_shape.proofs.JointLaws.{form_joint, total_joint}
 use Rattle.nego_shape.proofs.SoundShape.{shaped_form}
+use Rattle.nego_cli.specs.declared.failure.PartName.TheVariants as parts
 use Rattle.nego_cli.specs.declared.failure.Refusal.{Refusal}
 use Rattle.nego_cli.specs.declared.failure.Refusal.TheVariants as refusals
 use Rattle.nego_cli.specs.Change.{Change}
@@ -51,33 +52,17 @@ misshapen_not text p fault d spelled faulty s =
 
 -- a text that has no diagram spells none
 pub no_diagram_not : (text : List ℕ) (why : Refusal) (d : PlainDiagram) → HasNoDiagram text why → SpellsDiagram text d → ⊥
-no_diagram_not text (refusals.Off part fault) d h s = h.2 s.value s.spelled
-no_diagram_not text (refusals.Misshapen p fault) d h s = misshapen_not text p fault d h.0 h.1 s
-no_diagram_not text (refusals.TooLong part) d h s = h
-no_diagram_not text (refusals.NoEnd part line) d h s = h
-no_diagram_not text (refusals.Undetermined e o a) d h s = h
-no_diagram_not text refusals.NotYet d h s = h
+no_diagram_not text why d (inl (fault, is, first, unspelled)) s = unspelled s.value s.spelled
+no_diagram_not text why d (inr (p, fault, is, spelled, first)) s = misshapen_not text p fault d spelled first s
 
 -- the reason that a text has no diagram is one
 why_once : (text : List ℕ) (why other : Refusal) → HasNoDiagram text why → HasNoDiagram text other → why ≡ other
-why_once text (refusals.Off part fault) (refusals.Off part' fault') h k = ap₂ refusals.Off (h.0 ∙ sym k.0) (same_Some fault fault' (sym h.1 ∙ k.1))
-why_once text (refusals.Off part fault) (refusals.Misshapen p fault') h k = absurd (h.2 p k.0)
-why_once text (refusals.Misshapen p fault') (refusals.Off part fault) h k = absurd (k.2 p h.0)
-why_once text (refusals.Misshapen p fault) (refusals.Misshapen q fault') h k =
-    let same : p ≡ q = spelled_once text p q h.0 k.0 in
-    ap₂ refusals.Misshapen same (same_Some fault fault' (sym h.1 ∙ (ap shape_fault same ∙ k.1)))
-why_once text (refusals.TooLong part) other h k = absurd h
-why_once text (refusals.NoEnd part line) other h k = absurd h
-why_once text (refusals.Undetermined e o a) other h k = absurd h
-why_once text refusals.NotYet other h k = absurd h
-why_once text (refusals.Off part fault) (refusals.TooLong part') h k = absurd k
-why_once text (refusals.Off part fault) (refusals.NoEnd part' line) h k = absurd k
-why_once text (refusals.Off part fault) (refusals.Undetermined e o a) h k = absurd k
-why_once text (refusals.Off part fault) refusals.NotYet h k = absurd k
-why_once text (refusals.Misshapen p fault) (refusals.TooLong part') h k = absurd k
-why_once text (refusals.Misshapen p fault) (refusals.NoEnd part' line) h k = absurd k
-why_once text (refusals.Misshapen p fault) (refusals.Undetermined e o a) h k = absurd k
-why_once text (refusals.Misshapen p fault) refusals.NotYet h k = absurd k
+why_once text why other (inl (fault, is, first, unspelled)) (inl (fault', is', first', unspelled')) = is ∙ (ap (refusals.Off parts.Diagram) (same_Some fault fault' (sym first ∙ first')) ∙ sym is')
+why_once text why other (inl (fault, is, first, unspelled)) (inr (p, fault', is', spelled, first')) = absurd (unspelled p spelled)
+why_once text why other (inr (p, fault', is', spelled, first')) (inl (fault, is, first, unspelled)) = absurd (unspelled p spelled)
+why_once text why other (inr (p, fault, is, spelled, first)) (inr (q, fault', is', spelled', first')) =
+    let same : p ≡ q = spelled_once text p q spelled spelled' in
+    is ∙ (ap₂ refusals.Misshapen same (same_Some fault fault' (sym first ∙ (ap shape_fault same ∙ first'))) ∙ sym is')
 
 -- the reason that what was read is no diagram is one
 pub no_diagram_once : (read : Read) (why other : Refusal) → IsNoDiagram read why → IsNoDiagram read other → why ≡ other
@@ -95,12 +80,8 @@ joint_of p fault (Some f) is h = some_has (λ x. AreJointIn p x.kind) (form_faul
 joint_of p fault None is h = some_has (λ x. AreJointIn p x.kind) (not_total p) fault (total_joint p (shaped_form p is).sizes) h
 
 named_in : (text : List ℕ) (why : Refusal) → HasNoDiagram text why → IsNamed why
-named_in text (refusals.Misshapen p fault) h = joint_of p fault (form_fault p) refl h.1
-named_in text (refusals.Off part fault) h = tt
-named_in text (refusals.TooLong part) h = tt
-named_in text (refusals.NoEnd part line) h = tt
-named_in text (refusals.Undetermined e o a) h = absurd h
-named_in text refusals.NotYet h = tt
+named_in text why (inl (fault, is, first, unspelled)) = subst IsNamed (sym is) tt
+named_in text why (inr (p, fault, is, spelled, first)) = subst IsNamed (sym is) (joint_of p fault (form_fault p) refl first)
 
 -- what is named where there is no diagram is there
 pub no_diagram_named : (read : Read) (why : Refusal) → IsNoDiagram read why → IsNamed why

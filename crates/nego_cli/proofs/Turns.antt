@@ -1,5 +1,5 @@
 -- How commands end: behind one part, in one way.
-use Rattle.std.proofs.Common.{◌≡◌, ◌∙◌, ⊎_elim, inl, inr, ℕ, zero, suc, ◌<◌, ◌≤◌, List, [], ◌∷◌, length, Some, Result, Ok, Err, refl, sym, ap, subst, arith}
+use Rattle.std.proofs.Common.{◌≡◌, ◌∙◌, ⊎_elim, inl, inr, ℕ, zero, suc, ◌<◌, ◌≤◌, List, [], ◌∷◌, length, Some, Result, Ok, Err, refl, sym, ap, ap₂, subst, arith}
 use Rattle.std.specs.Prelude.{IfOk, IfErr}
 use Rattle.std.proofs.lemmas.Bool.{cases_lt}
 use Rattle.nego_base.specs.declared.ids.AgentId.{AgentId}
@@ -53,11 +53,11 @@ first_once d o a p b first other =
     let outcome : o ≡ p = neither_below o p (λ l. not_behind d o a p b first other (inl l)) (λ l. not_behind d p b o a other first (inl l)) in
     (outcome, neither_below a b (λ l. not_behind d o a p b first other (inr (outcome, l))) (λ l. not_behind d p b o a other first (inr (sym outcome, l))))
 
-undetermined_once : (d e f : PlainDiagram) (o p : OutcomeId) (a b : AgentId) → e ≡ d → f ≡ d → (o.0 ≡ p.0) × (a.0 ≡ b.0) → refusals.Undetermined e o a ≡ refusals.Undetermined f p b
-undetermined_once d e f o p a b is is' same =
+undetermined_once : (d : PlainDiagram) (o p : OutcomeId) (a b : AgentId) → (o.0 ≡ p.0) × (a.0 ≡ b.0) → refusals.Undetermined d o a ≡ refusals.Undetermined d p b
+undetermined_once d o p a b same =
     let outcome : o ≡ p = ap (λ (n : ℕ). record { 0 = n }) same.0 in
     let agent : a ≡ b = ap (λ (n : ℕ). record { 0 = n }) same.1 in
-    cc
+    ap₂ (refusals.Undetermined d) outcome agent
 
 -- ---- over a diagram
 
@@ -92,31 +92,15 @@ check_once d diagram turn other h k = h.0 ∙ sym k.0
 
 -- a diagram that is taken isn't refused
 reduced_not : (d : PlainDiagram) (why : Refusal) → IsDiagram d → ReduceTurn d [] Tells → IsNotReduced d why → ⊥
-reduced_not d (refusals.Undetermined e o a) diagram h k = undetermined d diagram o.0 a.0 k.1.outcome k.1.two h.0
-reduced_not d refusals.NotYet diagram h k = k.1 h.1
-reduced_not d (refusals.Off part fault) diagram h k = k
-reduced_not d (refusals.Misshapen p fault) diagram h k = k
-reduced_not d (refusals.TooLong part) diagram h k = k
-reduced_not d (refusals.NoEnd part line) diagram h k = k
+reduced_not d why diagram h (inl (o, a, is, first)) = undetermined d diagram o.0 a.0 first.outcome first.two h.0
+reduced_not d why diagram h (inr (is, determined, wide)) = wide h.1
 
 -- and the reason is one
 not_reduced_once : (d : PlainDiagram) (why other : Refusal) → IsDiagram d → IsNotReduced d why → IsNotReduced d other → why ≡ other
-not_reduced_once d (refusals.Undetermined e o a) (refusals.Undetermined f p b) diagram h k = undetermined_once d e f o p a b h.0 k.0 (first_once d o.0 a.0 p.0 b.0 h.1 k.1)
-not_reduced_once d (refusals.Undetermined e o a) refusals.NotYet diagram h k = absurd (undetermined d diagram o.0 a.0 h.1.outcome h.1.two k.0)
-not_reduced_once d refusals.NotYet (refusals.Undetermined e o a) diagram h k = absurd (undetermined d diagram o.0 a.0 k.1.outcome k.1.two h.0)
-not_reduced_once d refusals.NotYet refusals.NotYet diagram h k = refl
-not_reduced_once d (refusals.Off part fault) other diagram h k = absurd h
-not_reduced_once d (refusals.Misshapen p fault) other diagram h k = absurd h
-not_reduced_once d (refusals.TooLong part) other diagram h k = absurd h
-not_reduced_once d (refusals.NoEnd part line) other diagram h k = absurd h
-not_reduced_once d (refusals.Undetermined e o a) (refusals.Off part fault) diagram h k = absurd k
-not_reduced_once d (refusals.Undetermined e o a) (refusals.Misshapen p fault) diagram h k = absurd k
-not_reduced_once d (refusals.Undetermined e o a) (refusals.TooLong part) diagram h k = absurd k
-not_reduced_once d (refusals.Undetermined e o a) (refusals.NoEnd part line) diagram h k = absurd k
-not_reduced_once d refusals.NotYet (refusals.Off part fault) diagram h k = absurd k
-not_reduced_once d refusals.NotYet (refusals.Misshapen p fault) diagram h k = absurd k
-not_reduced_once d refusals.NotYet (refusals.TooLong part) diagram h k = absurd k
-not_reduced_once d refusals.NotYet (refusals.NoEnd part line) diagram h k = absurd k
+not_reduced_once d why other diagram (inl (o, a, is, first)) (inl (p, b, is', first')) = is ∙ (undetermined_once d o p a b (first_once d o.0 a.0 p.0 b.0 first first') ∙ sym is')
+not_reduced_once d why other diagram (inl (o, a, is, first)) (inr (is', determined, wide)) = absurd (undetermined d diagram o.0 a.0 first.outcome first.two determined)
+not_reduced_once d why other diagram (inr (is', determined, wide)) (inl (o, a, is, first)) = absurd (undetermined d diagram o.0 a.0 first.outcome first.two determined)
+not_reduced_once d why other diagram (inr (is, determined, wide)) (inr (is', determined', wide')) = is ∙ sym is'
 
 reduce_once : (d : PlainDiagram) → IsDiagram d → (turn other : Turn) → ReduceTurn d [] turn → ReduceTurn d [] other → turn ≡ other
 reduce_once d diagram Tells Tells h k = refl
@@ -192,12 +176,8 @@ over_named does named (read ∷ reads) why (inl (other, is, none, bad)) =
 over_named does named (read ∷ reads) why (inr (text, d, is, spelled, done)) = named d reads why done
 
 not_reduced_named : (d : PlainDiagram) (why : Refusal) → IsNotReduced d why → IsNamed why
-not_reduced_named d (refusals.Undetermined e o a) h = subst (λ x. (o.0 < length x.outcomes) × (a.0 < length x.agents)) (sym h.0) (h.1.outcome, h.1.agent)
-not_reduced_named d refusals.NotYet h = tt
-not_reduced_named d (refusals.Off part fault) h = absurd h
-not_reduced_named d (refusals.Misshapen p fault) h = absurd h
-not_reduced_named d (refusals.TooLong part) h = absurd h
-not_reduced_named d (refusals.NoEnd part line) h = absurd h
+not_reduced_named d why (inl (o, a, is, first)) = subst IsNamed (sym is) (first.outcome, first.agent)
+not_reduced_named d why (inr (is, determined, wide)) = subst IsNamed (sym is) tt
 
 -- what a command names in a refusal is there
 pub turn_named : (command : Command) (reads : List Read) (why : Refusal) → TurnOf command reads (Refuses why) → IsNamed why

@@ -1,9 +1,11 @@
 -- Diagrams that are read of an input.
-use Rattle.std.specs.Prelude.{◌≡◌, ⊤, ℕ, List, [], ◌∷◌, Some, None}
+use Rattle.std.specs.Prelude.{◌≡◌, ◌⊎◌, ⊤, ℕ, List, [], ◌∷◌, Some, None}
+use Rattle.nego_base.specs.declared.fault.Fault.{Fault}
 use Rattle.nego_model.specs.Diagram.{PlainDiagram, IsDiagram}
 use Rattle.nego_reader.specs.declared.parsed.Parsed.{Parsed}
 use Rattle.nego_reader.specs.Spelling.{Spells}
 use Rattle.nego_reader.specs.Reading.{diagram_fault}
+use Rattle.nego_shape.specs.declared.fault.ShapeFault.{ShapeFault}
 use Rattle.nego_shape.specs.Faults.{shape_fault}
 use Rattle.nego_cli.specs.declared.failure.PartName.{PartName}
 use Rattle.nego_cli.specs.declared.failure.PartName.TheVariants.{Diagram}
@@ -22,12 +24,17 @@ pub record SpellsDiagram (text : List ℕ) (d : PlainDiagram) : Type 0 where
   pub shaped : shape_fault value ≡ None
   pub is : d ≡ diagram_of value
 
--- The text has no diagram: it is off its grammar, first at this fault, or the value that it spells has a fault of shape,
--- of which this is the first.
+-- The text is off its grammar, first at this fault.
+abbrev pub IsOff : List ℕ → Refusal → Type 0
+IsOff text why = (fault : Fault) × (why ≡ Off Diagram fault) × (diagram_fault text ≡ Some fault) × ((p : Parsed) → ¬ Spells text p)
+
+-- The value that the text spells has a fault of shape, of which this is the first.
+abbrev pub IsMisshapen : List ℕ → Refusal → Type 0
+IsMisshapen text why = (p : Parsed) × (fault : ShapeFault) × (why ≡ Misshapen p fault) × Spells text p × (shape_fault p ≡ Some fault)
+
+-- Why the text has no diagram: it is off its grammar, or what it spells has a fault of shape.
 abbrev pub HasNoDiagram : List ℕ → Refusal → Type 0
-HasNoDiagram text (Off part fault) = (part ≡ Diagram) × (diagram_fault text ≡ Some fault) × ((p : Parsed) → ¬ Spells text p)
-HasNoDiagram text (Misshapen p fault) = Spells text p × (shape_fault p ≡ Some fault)
-HasNoDiagram text _ = ⊥
+HasNoDiagram text why = IsOff text why ⊎ IsMisshapen text why
 
 -- What was read where a diagram was wanted is none, for this reason.
 abbrev pub IsNoDiagram : Read → Refusal → Type 0

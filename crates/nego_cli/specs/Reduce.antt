@@ -1,5 +1,7 @@
 -- What `reduce` does with a diagram.
-use Rattle.std.specs.Prelude.{◌≡◌, ⊤, ℕ, List, []}
+use Rattle.std.specs.Prelude.{◌≡◌, ◌⊎◌, ⊤, ℕ, List, []}
+use Rattle.nego_base.specs.declared.ids.AgentId.{AgentId}
+use Rattle.nego_base.specs.declared.ids.OutcomeId.{OutcomeId}
 use Rattle.nego_model.specs.Negotiation.{IsDeterministic}
 use Rattle.nego_model.specs.Diagram.{PlainDiagram, negotiation_of}
 use Rattle.nego_model.specs.Undetermined.{IsFirstUndetermined}
@@ -18,11 +20,13 @@ use Rattle.nego_cli.specs.Narrow.{IsNarrowDiagram}
 use Rattle.nego_cli.specs.Order.{Reduces}
 use Rattle.nego_cli.specs.Certificate.{reduction_text}
 
--- The diagram isn't taken today: it isn't deterministic, first there; or it is, and isn't of today's form.
+-- The diagram isn't deterministic, first after this outcome for this agent.
+abbrev pub IsUndetermined : PlainDiagram → Refusal → Type 0
+IsUndetermined d why = (o : OutcomeId) × (a : AgentId) × (why ≡ Undetermined d o a) × IsFirstUndetermined d o.0 a.0
+
+-- Why the diagram isn't taken today: it isn't deterministic; or it is, and isn't of today's form.
 abbrev pub IsNotReduced : PlainDiagram → Refusal → Type 0
-IsNotReduced d (Undetermined of o a) = (of ≡ d) × IsFirstUndetermined d o.0 a.0
-IsNotReduced d NotYet = IsDeterministic (negotiation_of d) × ¬ IsNarrowDiagram d
-IsNotReduced d _ = ⊥
+IsNotReduced d why = IsUndetermined d why ⊎ ((why ≡ NotYet) × IsDeterministic (negotiation_of d) × ¬ IsNarrowDiagram d)
 
 -- Why there is no reduction: the diagram isn't taken, or memory was wanted.
 abbrev pub HasNotReduced : PlainDiagram → Failure → Type 0
