@@ -20,15 +20,7 @@ use std::test::Fail;
 
 /// Words that are no command that is built.
 static NOT_BUILT: [&str; 9] = [
-    "",
-    "reduce x",
-    "replay",
-    "help",
-    "--help",
-    "ask",
-    "ask 01",
-    "make 65",
-    "make 2",
+    "", "reduce x", "replay", "help", "--help", "ask", "ask 01", "make 65", "make 2",
 ];
 
 #[test]

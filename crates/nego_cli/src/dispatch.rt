@@ -17,11 +17,7 @@ use nego_io::Source;
 use std::alloc::Global;
 
 /// The answer of the command: one arm for each that is built.
-fn answer<S: Source>(
-    alloc: Global,
-    command: &Command,
-    source: &mut S,
-) -> Result<Answer, Failure>
+fn answer<S: Source>(alloc: Global, command: &Command, source: &mut S) -> Result<Answer, Failure>
     ensures found { IsAnswer command.now (change S.left S.faults source.old source.new) result }
     ensures untouched { most_parts (Some command.now) ≡ 0 → source.new ≡ source.old }
     ensures later { S.faults source.old ≤ S.faults source.new }

@@ -27,8 +27,7 @@ pub(crate) struct Call {
 }
 
 /// The examples `set.nego` and `purchase.nego`.
-pub(crate) const SET: &[u8] =
-    b"nego 1
+pub(crate) const SET: &[u8] = b"nego 1
 agent a 2
 atom only a
 out set
@@ -38,8 +37,7 @@ last only
 end
 ";
 
-pub(crate) const PURCHASE: &[u8] =
-    b"nego 1
+pub(crate) const PURCHASE: &[u8] = b"nego 1
 agent buyer 4
 agent seller 4
 agent bank 2
@@ -88,8 +86,7 @@ end
 ";
 
 /// The reduction of `set.nego`.
-pub(crate) const REDUCTION: &[u8] =
-    b"certificate 1
+pub(crate) const REDUCTION: &[u8] = b"certificate 1
 end
 sound uses 0
 summary 1

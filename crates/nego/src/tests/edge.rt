@@ -202,7 +202,10 @@ fn ends(rt: &impl Abort, alloc: Global, row: &Row, i: usize) {
     assert!(rt; status == row.status, "row {i}");
     assert!(rt; out.writer.taken.as_slice() == row.out, "row {i}");
     assert!(rt; err.writer.taken.as_slice() == row.err, "row {i}");
-    assert!(rt; [source.faults, out.faults, err.faults] == row.faults, "row {i}");
+    assert!(rt;
+        [source.faults, out.faults, err.faults] == row.faults,
+        "row {i}"
+    );
 }
 
 /// That all these calls end so.

@@ -300,20 +300,29 @@ pub(crate) fn shapes_are_told(rt: &impl Abort, alloc: Global) -> Result<(), Fail
     table_is_told(rt, alloc, &LINKING, "linking")?;
     table_is_told(rt, alloc, &DATA, "data")?;
     for (i, made) in MADE.iter().enumerate() {
-        answers_to(rt, alloc, &checked(made.want), text_of(alloc, made)?, "made", i)?;
+        answers_to(
+            rt,
+            alloc,
+            &checked(made.want),
+            text_of(alloc, made)?,
+            "made",
+            i,
+        )?;
     }
     Ok(())
 }
 
 /// The same of the texts of a table.
-fn table_is_told(
-    rt: &impl Abort,
-    alloc: Global,
-    rows: &[Row],
-    table: &str,
-) -> Result<(), Fail> {
+fn table_is_told(rt: &impl Abort, alloc: Global, rows: &[Row], table: &str) -> Result<(), Fail> {
     for (i, (text, want)) in rows.iter().enumerate() {
-        answers_to(rt, alloc, &checked(want), Text::copy(alloc, text)?, table, i)?;
+        answers_to(
+            rt,
+            alloc,
+            &checked(want),
+            Text::copy(alloc, text)?,
+            table,
+            i,
+        )?;
     }
     Ok(())
 }
@@ -352,11 +361,13 @@ fn text_of(alloc: Global, made: &Made) -> Result<Text, Fail> {
             "\ncase :\nnext l a0",
         )?;
     }
-    text.extend_from_slice(b"
+    text.extend_from_slice(
+        b"
 first l
 last l
 end
-")?;
+",
+    )?;
     Ok(text)
 }
 

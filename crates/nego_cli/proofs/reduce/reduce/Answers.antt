@@ -19,8 +19,7 @@ returns-clause-ok c =
     let fresh : work ≡ fresh_work d = c.in-Ok.ensures.ok in
     let uses = map plain_use c.in_ok-reduction.reduction.uses in
     let summary = plain_summary c.in_ok-reduction.reduction.summary in
-    let reduces : Reduces work uses summary = c.in_ok-reduction.ensures in
-    (
+    let reduces : Reduces work uses summary = c.in_ok-reduction.ensures in (
       refl,
       record {
         uses = uses;
