@@ -12,3 +12,4 @@ pub mod CaseRelations
 pub mod Offsets
 pub mod Additions
 pub mod Uncovered
+pub mod PartLaws

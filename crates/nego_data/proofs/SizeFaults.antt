@@ -118,3 +118,12 @@ first_fault_is_so sizes fault = (to fault, from fault)
 pub answered_fault : {T : Type 0} (sizes : List ℕ) (r : Result T SizeFault) → result_err r ≡ fault_of_sizes sizes → IfErr r (HasFault sizes)
 answered_fault sizes (Ok x) h = tt
 answered_fault sizes (Err fault) h = (first_fault_is_so sizes fault).0 (sym h)
+
+-- sizes have no fault
+pub no_fault : (sizes : List ℕ) → AreSizes sizes → fault_of_sizes sizes ≡ None
+no_fault sizes ok =
+    rw (
+      none_first (λ size. size == 0) sizes (λ k d l. let q : 0 < get_or sizes k d = (ok.each k d l).0 in ne_eqb (get_or sizes k d) 0 (λ e. omega (arith, q, e))),
+      none_first (λ size. nat_lt 64 size) sizes (λ k d l. le-ltb 64 (get_or sizes k d) (ok.each k d l).1),
+      none_past sizes (λ k d l. (ok.each k d l).0) ok.together,
+    ) refl

@@ -4,7 +4,7 @@ use Rattle.std.proofs.lemmas.Bool.{false≢true}
 use Rattle.std.proofs.lemmas.List.Elements.{All-from_get_or}
 use Rattle.std.specs.List.{All, find, list_any, range_with_len}
 use Rattle.nego_base.proofs.BoolLaws.{not_true, not_not}
-use Rattle.nego_base.proofs.Firsts.{found_in_range, none_found}
+use Rattle.nego_base.proofs.Firsts.{found_in_range, none_found, none_in_range}
 use Rattle.nego_base.proofs.Members.{is_in_none}
 use Rattle.nego_data.specs.declared.cases.Case.{Case}
 use Rattle.nego_data.specs.Data.{data_count, split}
@@ -46,6 +46,10 @@ module _ (sizes : List ℕ) (cases : List Case) where
   -- all are covered where there are none
   pub none-uncovered : first_uncovered sizes cases ≡ None → AllCovered sizes cases
   none-uncovered h d l = not_not (list_any (λ case. covers case (split sizes d)) cases) (none_found fails 0 (data_count sizes) h d (omega arith) (omega (arith, l)))
+
+  -- and the way back
+  pub covered-none : AllCovered sizes cases → first_uncovered sizes cases ≡ None
+  covered-none h = none_in_range fails 0 (data_count sizes) (λ d l k. not_true (list_any (λ case. covers case (split sizes d)) cases) (h d (omega (arith, k))))
 
   -- no row is empty where all are covered and the cases' numbers fit
   pub rows_of-total : All (AssignsBelow sizes) cases → AllCovered sizes cases → All (λ row. row ≢ []) (rows_of sizes cases)

@@ -4,6 +4,7 @@ pub mod Sizes
 pub mod Kept
 pub mod BitRows
 pub mod Tables
+pub mod Parts
 pub mod Cases
 pub mod CaseForm
 pub mod Given

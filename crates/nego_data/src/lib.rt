@@ -8,11 +8,13 @@ mod giving;
 mod joint_data;
 pub mod laws;
 mod making;
+mod parts;
 mod places;
 mod rows;
+mod table;
 #[cfg(test)]
 mod tests;
 
 pub use joint_data::{SizeFault, Sizes};
 pub use making::{TableFault, table_of};
-pub use rows::Table;
+pub use table::Table;

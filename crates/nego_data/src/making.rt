@@ -3,13 +3,16 @@ ghost use Rattle.std.specs.Prelude.{◌≡◌, ◌≢◌, ℕ, ◌<◌, ◌||◌
 ghost use Rattle.nego_data.specs.Data.{data_count};
 ghost use Rattle.nego_data.specs.Tables.{IsTable, is_related};
 ghost use Rattle.nego_data.specs.Cases.{relates, rows_of};
-ghost use Rattle.nego_data.specs.CaseForm.{NamesOnly, AssignsOnce, AssignsBelow, IsNamedBelow, AllCovered, HasTableFault, first_uncovered, named_uncovered};
+ghost use Rattle.nego_data.specs.CaseForm.{TestBelow, NamesOnly, AssignsOnce, AssignsBelow, IsNamedBelow, AllCovered, HasTableFault, first_uncovered, named_uncovered};
+ghost use Rattle.nego_data.specs.Sizes.{AreSizes};
+ghost use Rattle.nego_data.specs.Parts.{part_sizes};
 ghost use Rattle.nego_data.specs.Locality.{ActsOn};
 ghost use Rattle.nego_data.specs.declared.making.TableFault.TheVariants.{Memory as Starved};
 
 use crate::cases::Case;
 use crate::covering::{covers, first_uncovered};
 use crate::giving::{free_agents, least_values, offsets};
+use crate::rows::Rows;
 use crate::{Sizes, Table};
 use nego_base::{AgentSet, Memory};
 use std::alloc::Global;
@@ -55,19 +58,42 @@ pub fn table_of(
     ensures uncovered { named_uncovered result ≡ first_uncovered sizes.now cases.now }
     ensures err { IfErr result (HasTableFault sizes.now cases.now) }
 {
-    let all = sizes.all();
-    if let Some(d) = first_uncovered(sizes, cases) {
+    let part = sizes.part(parties);
+    if let Some(d) = uncovered(sizes, parties, &part, cases) {
         return Err(TableFault::NotTotal(d));
     }
-    let mut table = Table::empty(alloc, all)?;
+    let rows = part_rows(alloc, &part, cases)?;
+    Ok(Table::widened(sizes, parties, part, rows))
+}
+
+/// The least joint data that no case covers. Where the parties' values are all covered, there are none.
+fn uncovered(sizes: &Sizes, parties: AgentSet, part: &Sizes, cases: &[Case]) -> Option<u16>
+    requires sizes { AreSizes sizes.now }
+    requires part { part.now ≡ part_sizes parties sizes.now }
+    requires named { All (NamesOnly parties) cases.now }
+    requires tests { All (λ case. All (TestBelow 16) case.tests) cases.now }
+    ensures { result ≡ first_uncovered sizes.now cases.now }
+{
+    first_uncovered(part, cases)?;
+    first_uncovered(sizes, cases)
+}
+
+/// The rows of the cases over the parties' values.
+fn part_rows(alloc: Global, part: &Sizes, cases: &[Case]) -> Result<Rows, Memory>
+    requires named { All (IsNamedBelow (length part.now)) cases.now }
+    requires once { All AssignsOnce cases.now }
+    requires fits { All (AssignsBelow part.now) cases.now }
+    ensures { IfOk result (λ rows. rows ≡ rows_of part.now cases.now) }
+{
+    let mut rows = Rows::empty(alloc, part.all())?;
     for case in cases {
-        add_case(&mut table, sizes, case);
+        add_case(&mut rows, part, case);
     }
-    Ok(table)
+    Ok(rows)
 }
 
 /// Relates what the case relates too, in a table of the sizes' joint data.
-fn add_case(table: &mut Table, sizes: &Sizes, case: &Case)
+fn add_case(table: &mut Rows, sizes: &Sizes, case: &Case)
     requires named { IsNamedBelow (length sizes.now) case.now }
     requires once { AssignsOnce case.now }
     requires fits { AssignsBelow sizes.now case.now }

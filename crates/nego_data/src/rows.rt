@@ -1,4 +1,4 @@
-//! Tables of joint data, kept as rows of bits.
+//! Tables of numbers, kept as rows of bits.
 ghost use Rattle.std.specs.Prelude.{◌≡◌, ℕ, ◌<◌, ◌≤◌, ◌&&◌, ◌||◌, ◌==◌, [], length, replicate, slice_get, slice_index_or, IfOk};
 ghost use Rattle.nego_base.specs.Members.{is_in};
 ghost use Rattle.nego_data.specs.BitRows.{is_moved};
@@ -9,15 +9,15 @@ use nego_base::Memory;
 use std::alloc::Global;
 use std::marker::Model;
 
-/// What an outcome relates: for each joint data a row of bits, one for each joint data. Contracts see it as the list
-/// that gives for each joint data the rising list of those to which it is related.
+/// A table of so many numbers: for each of them a row of bits, one for each of them. Contracts see it as the list that
+/// gives for each number the rising list of those to which it is related.
 #[derive(Debug, Drop)]
-pub struct Table {
+pub struct Rows {
     all: u16,
     words: Vec<u64>,
 }
 
-impl Model for Table {
+impl Model for Rows {
     ghost use Rattle.std.specs.Prelude.{ℕ, List};
     ghost use Rattle.nego_data.specs.Tables.{rows_of_words, IsPacked};
 
@@ -28,14 +28,14 @@ impl Model for Table {
     ghost invariant = { λ t. IsPacked t.all t.words.items };
 }
 
-impl Table {
+impl Rows {
     /// The table of so many joint data of which none are related.
-    pub(crate) fn empty(alloc: Global, all: u16) -> Result<Table, Memory>
+    pub(crate) fn empty(alloc: Global, all: u16) -> Result<Rows, Memory>
         requires { all ≤ 1024 }
-        ensures { IfOk result (λ table. table ≡ replicate all []) }
+        ensures { IfOk result (λ rows. rows ≡ replicate all []) }
     {
         let words = vec![in alloc; 0; all as usize * row_words(all)]?;
-        Ok(Table { all, words })
+        Ok(Rows { all, words })
     }
 
     /// Relates d to the joint data that are above the least by an offset.
@@ -61,7 +61,7 @@ impl Table {
         word >> (e as usize % WORD_BITS) & 1 == 1
     }
 
-    /// How many joint data there are.
+    /// How many numbers there are.
     fn all(&self) -> u16
         ensures value { result ≡ length self.now }
         ensures table { IsTable (length self.now) self.now }

@@ -3,7 +3,7 @@ use Rattle.std.proofs.lemmas.Iterator.{YieldsList-from_range}
 use Rattle.std.proofs.lemmas.Iterator.Consumers.{YieldsList-from_filter, count_from_yields_List}
 use Rattle.nego_data.specs.Tables.{is_related}
 use Rattle.nego_data.proofs.Tables.{filter-row}
-use Rattle.nego_data.proofs.rows.Table.count.Goals as goal
+use Rattle.nego_data.proofs.rows.Rows.count.Goals as goal
 
 pub returns-clause-value : goal.returns-clause-value
 returns-clause-value c =

@@ -4,7 +4,7 @@ use Rattle.std.proofs.lemmas.Iterator.Consumers.{YieldsList-from_filter, nth_fro
 use Rattle.std.proofs.lemmas.Iterator.Adapters.{option_map_id}
 use Rattle.nego_data.specs.Tables.{is_related}
 use Rattle.nego_data.proofs.Tables.{filter-row}
-use Rattle.nego_data.proofs.rows.Table.nth.Goals as goal
+use Rattle.nego_data.proofs.rows.Rows.nth.Goals as goal
 
 pub returns-clause-value : goal.returns-clause-value
 returns-clause-value c =

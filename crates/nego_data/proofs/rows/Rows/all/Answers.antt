@@ -1,5 +1,5 @@
 use Rattle.nego_data.proofs.Words.{rows_seen, is_table_seen}
-use Rattle.nego_data.proofs.rows.Table.all.Goals as goal
+use Rattle.nego_data.proofs.rows.Rows.all.Goals as goal
 
 pub returns-clause-value : goal.returns-clause-value
 returns-clause-value c = rows_seen c.self.inside.all c.self.inside.words.items c.args.self.now c.self.view_is

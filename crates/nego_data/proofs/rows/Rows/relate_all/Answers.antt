@@ -5,7 +5,7 @@ use Rattle.std.proofs.lemmas.List.{with_items_is}
 use Rattle.nego_data.specs.BitRows.{is_moved}
 use Rattle.nego_data.specs.Tables.{IsTable, IsPacked, is_related, rows_of_words}
 use Rattle.nego_data.proofs.Words.{rows_seen, rows_of_words-table, row_there, length-after, related_after}
-use Rattle.nego_data.proofs.rows.Table.relate_all.Goals as goal
+use Rattle.nego_data.proofs.rows.Rows.relate_all.Goals as goal
 
 pub slice_bounds-add_moved-end : goal.slice_bounds-add_moved-end
 slice_bounds-add_moved-end c =

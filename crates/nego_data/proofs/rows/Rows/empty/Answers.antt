@@ -1,7 +1,7 @@
 use Rattle.std.proofs.Common.{◌*◌, ap, ◌∙◌, rules}
 use Rattle.nego_data.specs.Tables.{rows_of_words}
 use Rattle.nego_data.proofs.Words.{rows_of_zeros}
-use Rattle.nego_data.proofs.rows.Table.empty.Goals as goal
+use Rattle.nego_data.proofs.rows.Rows.empty.Goals as goal
 
 pub returns : goal.returns
 returns c =

@@ -2,7 +2,7 @@ use Rattle.std.proofs.Common.{arith}
 use Rattle.std.proofs.lemmas.List.{get_or_read}
 use Rattle.nego_data.specs.Tables.{word_place}
 use Rattle.nego_data.proofs.Words.{place_seen, bit_seen, table_seen}
-use Rattle.nego_data.proofs.rows.Table.related.Goals as goal
+use Rattle.nego_data.proofs.rows.Rows.related.Goals as goal
 
 pub index-word-requires : goal.index-word-requires
 index-word-requires c =

@@ -1,0 +1,16 @@
+use Rattle.std.proofs.Common.{◌∙◌, length, slice_get, sym, ap, rules, tests, arith}
+use Rattle.std.proofs.lemmas.Iterator.{YieldsList-from_range}
+use Rattle.std.proofs.lemmas.Iterator.Consumers.{YieldsList-from_filter, nth_from_yields_List}
+use Rattle.std.proofs.lemmas.Iterator.Adapters.{option_map_id}
+use Rattle.nego_data.specs.Tables.{is_related}
+use Rattle.nego_data.proofs.Tables.{filter-row}
+use Rattle.nego_data.proofs.table.Table.nth.Goals as goal
+
+pub returns-clause-value : goal.returns-clause-value
+returns-clause-value c =
+    let table = c.args.self.now in
+    let all = c.all-all.ensures.value in
+    sym (option_map_id c.nth.result)
+    ∙ nth_from_yields_List c.nth.result c.nth.new.self c.args.k c.nth.ensures.ran
+    (YieldsList-from_filter _ (λ e. is_related table c.args.d e) (YieldsList-from_range 0 c.all-all.result (length table) (search rules) (omega (arith, all))) c.filter-row.ensures.closure (λ x r q k. search (rules, tests)))
+    ∙ ap (λ row. slice_get row c.args.k) (filter-row table c.args.d c.all-all.ensures.table c.requires)
