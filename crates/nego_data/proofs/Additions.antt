@@ -1,11 +1,11 @@
 -- What a table relates once joint data, the offsets of a case, and cases are added one after another.
-use Rattle.std.proofs.Common.{◌≡◌, inl, inr, ℕ, ◌+◌, ◌-◌, min, ◌<◌, ◌≤◌, Bool, true, false, ◌&&◌, ◌||◌, ◌==◌, nat_lt, List, [], ◌∷◌, ◌++◌, length, take, get_or, slice_index, Option, Some, None, IsTrue, refl, sym, ap, ap₂, ◌∙◌, arith}
+use Rattle.std.proofs.Common.{◌≡◌, inl, inr, ℕ, ◌+◌, ◌-◌, min, ◌<◌, ◌≤◌, Bool, true, false, ◌&&◌, ◌||◌, ◌==◌, nat_lt, List, [], ◌∷◌, ◌++◌, length, take, map, get_or, slice_index, slice_index_or, subst, Option, Some, None, IsTrue, refl, sym, ap, ap₂, ◌∙◌, arith}
 use Rattle.std.proofs.lemmas.Bool.{cases_eq}
 use Rattle.std.proofs.lemmas.Bool.Decides.{nat_tests}
-use Rattle.std.proofs.lemmas.List.{take_more}
+use Rattle.std.proofs.lemmas.List.{take_more, length-take-le, get_or-take, ext_get_or}
 use Rattle.std.proofs.lemmas.List.Folds.{list_any-append}
 use Rattle.std.proofs.lemmas.List.Elements.{All-head, All-tail, All-weaker}
-use Rattle.std.specs.List.{All, list_any, list_all}
+use Rattle.std.specs.List.{All, list_any, list_all, range_with_len}
 use Rattle.nego_base.specs.Members.{is_in}
 use Rattle.nego_base.proofs.Members.{All-member}
 use Rattle.nego_data.specs.declared.cases.Operand.{Operand}
@@ -14,12 +14,16 @@ use Rattle.nego_data.specs.declared.cases.Term.{Term}
 use Rattle.nego_data.specs.declared.cases.Term.TheVariants as terms
 use Rattle.nego_data.specs.declared.cases.Test.{Test}
 use Rattle.nego_data.specs.declared.cases.Case.{Case}
-use Rattle.nego_data.specs.Data.{data_count, split}
+use Rattle.nego_data.specs.Data.{data_count, split, joint}
 use Rattle.nego_data.specs.Tables.{IsTable, is_related}
 use Rattle.nego_data.specs.Sizes.{tuple_of}
 use Rattle.nego_data.specs.Cases.{term_for, compares, operand_value, test_holds, covers, case_relates, relates, rows_of}
 use Rattle.nego_data.specs.CaseForm.{AreAmong, NamesOnly, OperandBelow, TermBelow, TestBelow, SetBelow, IsNamedBelow, operand_agents, term_agents}
-use Rattle.nego_data.specs.Given.{least_after}
+use Rattle.nego_data.specs.Given.{least_after, least_values}
+use Rattle.std.proofs.lemmas.List.FromFn.{get_or-map-range_with_len, length-map-range_with_len}
+use Rattle.nego_data.proofs.Counts.{joint-front}
+use Rattle.nego_data.proofs.JointData.{length-split, joint-split}
+use Rattle.nego_data.proofs.Assigned.{at-least_values}
 use Rattle.nego_data.proofs.Tuples.{at-tuple_of}
 use Rattle.nego_data.proofs.Tables.{same_tables, rows_of-table, rows_of-relates}
 
@@ -159,3 +163,44 @@ pub table_of_cases : (sizes : List ℕ) (cases : List Case) (table : List (List 
     ((d e : ℕ) → d < data_count sizes → e < data_count sizes → is_related table d e ≡ relates sizes cases d e) → table ≡ rows_of sizes cases
 table_of_cases sizes cases table ok related =
     same_tables (data_count sizes) table (rows_of sizes cases) ok (rows_of-table sizes cases) (λ d e h k. related d e h k ∙ sym (rows_of-relates sizes cases d e))
+
+-- ---- the number of the least values
+
+-- values that are the same at each agent have one number
+pub joint-same : (sizes xs ys : List ℕ) → length sizes ≤ length xs → length sizes ≤ length ys → ((a : ℕ) → a < length sizes → slice_index xs a ≡ slice_index ys a) → joint sizes xs ≡ joint sizes ys
+joint-same sizes xs ys long long' same =
+    let size = length-take-le (length sizes) xs long in
+    let size' = length-take-le (length sizes) ys long' in
+    sym (joint-front sizes xs)
+    ∙ ap (joint sizes) (ext_get_or 0 (take (length sizes) xs) (take (length sizes) ys) (size ∙ sym size') (λ a h.
+    let below : a < length sizes = subst (λ n. a < n) size h in
+    get_or-take (length sizes) xs a 0 below ∙ same a below ∙ sym (get_or-take (length sizes) ys a 0 below)))
+    ∙ joint-front sizes ys
+
+-- a value of all, in the list of them
+pub value-at : (sizes : List ℕ) (values : List (List ℕ)) (d : ℕ) → values ≡ map (tuple_of sizes) (range_with_len 0 (data_count sizes)) → d < data_count sizes → slice_index_or values d [] ≡ tuple_of sizes d
+value-at sizes values d is h = ap (λ xs. slice_index_or xs d []) is ∙ get_or-map-range_with_len (tuple_of sizes) 0 (data_count sizes) d d [] h (omega arith)
+
+pub length-values : (sizes : List ℕ) (values : List (List ℕ)) → values ≡ map (tuple_of sizes) (range_with_len 0 (data_count sizes)) → length values ≡ data_count sizes
+length-values sizes values is = ap length is ∙ length-map-range_with_len (tuple_of sizes) 0 (data_count sizes)
+
+module _ (sizes : List ℕ) (case : Case) (d : ℕ) (h : d < data_count sizes) where
+  pub length-least_values : length (least_values sizes case.sets (split sizes d)) ≡ length sizes
+  unfolding least_values
+  length-least_values = length-map-range_with_len (λ b. least_after (term_for case.sets b) (slice_index sizes b) (split sizes d) (slice_index (split sizes d) b)) 0 (length sizes)
+
+  -- a case that assigns nothing leaves the data as they are
+  pub number_unassigned : case.sets ≡ [] → d ≡ joint sizes (least_values sizes case.sets (split sizes d))
+  number_unassigned none =
+      sym (joint-split sizes d h)
+      ∙ joint-same sizes (split sizes d) (least_values sizes case.sets (split sizes d)) (omega (arith, length-split sizes d)) (omega (arith, length-least_values)) (λ a k.
+      sym (at-least_values sizes case.sets (split sizes d) a k
+      ∙ ap (λ sets. least_after (term_for sets a) (slice_index sizes a) (split sizes d) (slice_index (split sizes d) a)) none))
+
+  -- the number of what has the least values
+  pub number_assigned : (old new : List ℕ) → length sizes ≤ length new → old ≡ tuple_of sizes d →
+      ((a : ℕ) → a < length sizes → slice_index new a ≡ least_after (term_for case.sets a) (slice_index sizes a) old (slice_index old a)) →
+      joint sizes new ≡ joint sizes (least_values sizes case.sets (split sizes d))
+  number_assigned old new long is least =
+      joint-same sizes new (least_values sizes case.sets (split sizes d)) long (omega (arith, length-least_values)) (λ a k.
+      tuple_least sizes case d old new is least a k ∙ sym (at-least_values sizes case.sets (split sizes d) a k))

@@ -1,12 +1,12 @@
 -- What is assigned to agents, and what agents have who follow it.
-use Rattle.std.proofs.Common.{◌≡◌, ◌≢◌, inl, inr, ℕ, zero, suc, ◌+◌, ◌-◌, ◌<◌, ◌≤◌, min, Bool, true, false, cond, ◌&&◌, ◌||◌, ◌==◌, List, [], ◌∷◌, ◌++◌, length, take, set, map, slice_index, get_or, Option, Some, None, IsTrue, refl, sym, subst, ap, ap₂, ◌∙◌, arith, eqb-true, eq-eqb, lt-ltb, le_of_suc-le-suc, suc-le-suc}
+use Rattle.std.proofs.Common.{◌≡◌, ◌≢◌, inl, inr, ℕ, zero, suc, ◌+◌, ◌-◌, ◌<◌, ◌≤◌, min, Bool, true, false, cond, ◌&&◌, ◌||◌, ◌==◌, List, [], ◌∷◌, ◌++◌, length, take, set, slice_index, get_or, Option, Some, None, IsTrue, refl, sym, subst, ap, ap₂, ◌∙◌, arith, eqb-true, eq-eqb, lt-ltb, le_of_suc-le-suc, suc-le-suc}
 use Rattle.std.proofs.lemmas.Bool.{and_parts, and_from, ne_eqb, cases_eq, cond-true, cond-false}
 use Rattle.std.proofs.lemmas.Bool.Decides.{nat_tests}
 use Rattle.std.proofs.lemmas.Option.{none-some, same_Some}
 use Rattle.std.proofs.lemmas.List.{length-take-le, get_or-take, get_or_default, get_or-set_same, get_or-set_other, take_more}
 use Rattle.std.proofs.lemmas.List.FromFn.{length-map-range_with_len, get_or-map-range_with_len}
 use Rattle.std.proofs.lemmas.List.Elements.{All-head, All-tail}
-use Rattle.std.specs.List.{All, AllPairs, range_with_len}
+use Rattle.std.specs.List.{All, AllPairs}
 use Rattle.std.specs.Bool.{⊤}
 use Rattle.nego_base.specs.Members.{is_in, with_member}
 use Rattle.nego_base.proofs.Members.{is_in-with}
@@ -17,7 +17,7 @@ use Rattle.nego_data.specs.declared.cases.Case.{Case}
 use Rattle.nego_data.specs.Cases.{term_for, agent_follows, agents_follow}
 use Rattle.nego_data.specs.CaseForm.{FitsSize, AssignsBelow, AssignsOnce}
 use Rattle.nego_data.specs.Sizes.{AreBelow}
-use Rattle.nego_data.specs.Given.{least_given, least_after, is_any, is_free}
+use Rattle.nego_data.specs.Given.{least_values, least_given, least_after, is_any, is_free}
 use Rattle.nego_data.proofs.JointData.{AreValues}
 
 -- each agent follows its assignment where all do
@@ -135,10 +135,6 @@ least_after-below (Some terms.Any) size values old h fits = omega (arith, h)
 least_after-below (Some (terms.Number n)) size values old h fits = fits
 least_after-below (Some (terms.Plus b n)) size values old h fits = omega (arith, h)
 least_after-below (Some (terms.Minus b n)) size values old h fits = omega (arith, h)
-
--- the least values of the agents
-pub least_values : List ℕ → List Set → List ℕ → List ℕ
-least_values sizes sets old = map (λ a. least_after (term_for sets a) (slice_index sizes a) old (slice_index old a)) (range_with_len 0 (length sizes))
 
 -- the least value of an agent
 pub at-least_values : (sizes : List ℕ) (sets : List Set) (old : List ℕ) (a : ℕ) → a < length sizes →

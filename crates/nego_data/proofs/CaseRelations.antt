@@ -14,10 +14,11 @@ use Rattle.nego_data.specs.declared.cases.Case.{Case}
 use Rattle.nego_data.specs.Data.{data_count, split, joint}
 use Rattle.nego_data.specs.Cases.{rows_of, compares, operand_value, test_holds, gives, term_for, covers, agent_follows, agents_follow, case_relates, relates}
 use Rattle.nego_data.specs.CaseForm.{operand_agents, term_agents, AreAmong, NamesOnly, AssignsBelow, IsCovered}
+use Rattle.nego_data.specs.Given.{least_values}
 use Rattle.nego_data.specs.Locality.{AgreeOn, ActsOn}
 use Rattle.nego_base.proofs.BoolLaws.{passing_item, any_passes, all_pass}
 use Rattle.nego_data.proofs.JointData.{length-split, split-below, split-values, AreValues, joint-below, split-joint}
-use Rattle.nego_data.proofs.Assigned.{agents_follow-at, agents_follow_from, follow_from, term_for-some, term_for-fits, least_after-follows, least_values, at-least_values, least_values-values}
+use Rattle.nego_data.proofs.Assigned.{agents_follow-at, agents_follow_from, follow_from, term_for-some, term_for-fits, least_after-follows, at-least_values, least_values-values}
 use Rattle.nego_data.proofs.Tables.{relates-on_data, rows_of-relates}
 use Rattle.nego_data.proofs.Acting.{ActsOn-same}
 

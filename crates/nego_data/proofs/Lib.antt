@@ -13,3 +13,4 @@ pub mod Offsets
 pub mod Additions
 pub mod Uncovered
 pub mod PartLaws
+pub mod NoOffsets

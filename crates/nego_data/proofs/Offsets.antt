@@ -1,5 +1,5 @@
 -- What a case relates, by the least values and the offsets of its free agents.
-use Rattle.std.proofs.Common.{◌≡◌, inl, inr, ℕ, ◌+◌, ◌-◌, ◌<◌, ◌≤◌, Bool, true, false, cond, ◌&&◌, ◌||◌, ◌==◌, nat_lt, nat_le, List, [], ◌∷◌, length, take, map, filter, slice_index, Option, Some, None, refl, sym, subst, ap, ◌∙◌, arith, eqb-true, eq-eqb, lt-ltb, ltb-true}
+use Rattle.std.proofs.Common.{◌≡◌, inl, inr, ℕ, ◌+◌, ◌-◌, ◌<◌, ◌≤◌, Bool, true, false, cond, ◌&&◌, ◌||◌, ◌==◌, nat_lt, nat_le, List, [], ◌∷◌, length, take, map, slice_index, Option, Some, None, refl, sym, subst, ap, ◌∙◌, arith, eqb-true, eq-eqb, lt-ltb, ltb-true}
 use Rattle.std.proofs.lemmas.Bool.{and_parts, and_from, or_cases, or_left, or_right, cases_lt, cases_Bool, cond-true, cond-false, false≢true, true≢false, leb-true, le-leb}
 use Rattle.std.proofs.lemmas.List.{length-take-le, get_or-take, get_or_past}
 use Rattle.std.proofs.lemmas.List.FromFn.{length-map-range_with_len, get_or-map-range_with_len}
@@ -15,7 +15,7 @@ use Rattle.nego_data.specs.Data.{data_count, split, joint}
 use Rattle.nego_data.specs.Sizes.{AreSizes, tuple_of}
 use Rattle.nego_data.specs.Cases.{term_for, covers, agent_follows, agents_follow, relates}
 use Rattle.nego_data.specs.CaseForm.{AssignsBelow}
-use Rattle.nego_data.specs.Given.{least_after, is_free, is_offset}
+use Rattle.nego_data.specs.Given.{offsets_of, least_after, is_free, is_offset}
 use Rattle.nego_data.proofs.JointData.{AreValues, length-split, split-below, joint-split, joint-below, split-joint, joint-sum}
 use Rattle.nego_data.proofs.Counts.{joint-front}
 use Rattle.nego_data.proofs.Tuples.{at-tuple_of}
@@ -44,10 +44,6 @@ fixed-least (Some terms.Any) size values old new h k = absurd (true≢false h)
 fixed-least (Some (terms.Number n)) size values old new h k = eqb-true new n k
 fixed-least (Some (terms.Plus b n)) size values old new h k = eqb-true new (least_after (Some (terms.Plus b n)) size values old) k
 fixed-least (Some (terms.Minus b n)) size values old new h k = eqb-true new (least_after (Some (terms.Minus b n)) size values old) k
-
--- the joint data in which no agent but the free ones has a value above 0
-abbrev pub offsets_of : List ℕ → List ℕ → List ℕ
-offsets_of sizes free = filter (λ o. is_offset free (tuple_of sizes o)) (range_with_len 0 (data_count sizes))
 
 module _ (sizes : List ℕ) (case : Case) (free : List ℕ) (ok : AreSizes sizes) (fits : AssignsBelow sizes case) (frees : (a : ℕ) → is_in a free ≡ is_free (term_for case.sets a)) where
   -- what is assigned to an agent

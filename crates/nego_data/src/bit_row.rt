@@ -30,7 +30,7 @@ impl BitRow {
         requires { e < 1024 }
         ensures { (f : ℕ) → is_set self.new.words f ≡ (is_set self.old.words f || f == e) }
     {
-        self.words[e as usize / WORD_BITS] |= 1 << (e as usize % WORD_BITS);
+        set_bit(&mut self.words, e);
     }
 
     /// Adds the set, each number in it moved up, to the set that a row of words is.
@@ -67,4 +67,12 @@ impl BitRow {
             0
         }
     }
+}
+
+/// Puts e into the set that a row of words is.
+pub(crate) fn set_bit(row: &mut [u64], e: u16)
+    requires { e / 64 < length row.old }
+    ensures { (f : ℕ) → is_set row.new f ≡ (is_set row.old f || f == e) }
+{
+    row[e as usize / WORD_BITS] |= 1 << (e as usize % WORD_BITS);
 }

@@ -1,12 +1,13 @@
 //! What a case gives the agents: the values that it fixes, and the agents that may have any.
-ghost use Rattle.std.specs.Prelude.{◌≡◌, ℕ, ◌<◌, ◌&&◌, nat_lt, slice_index, length, All};
+ghost use Rattle.std.specs.Prelude.{◌≡◌, ℕ, ◌+◌, ◌<◌, ◌&&◌, ◌==◌, nat_lt, map, slice_index, length, All};
+ghost use Rattle.std.specs.List.{list_any, range_with_len};
 ghost use Rattle.nego_base.specs.Members.{is_in};
 ghost use Rattle.nego_data.specs.BitRows.{is_set};
-ghost use Rattle.nego_data.specs.Data.{data_count};
-ghost use Rattle.nego_data.specs.Sizes.{AreBelow, tuple_of};
+ghost use Rattle.nego_data.specs.Data.{data_count, split, joint};
+ghost use Rattle.nego_data.specs.Sizes.{AreBelow, AreSizes, tuple_of};
 ghost use Rattle.nego_data.specs.Cases.{term_for};
 ghost use Rattle.nego_data.specs.CaseForm.{AssignsBelow, AssignsOnce, FitsSize, SetBelow, TermBelow};
-ghost use Rattle.nego_data.specs.Given.{least_given, least_after, is_any, is_free, is_offset};
+ghost use Rattle.nego_data.specs.Given.{offsets_of, is_above, least_values, least_given, least_after, is_any, is_free, is_offset};
 
 use crate::Sizes;
 use crate::bit_row::BitRow;
@@ -15,7 +16,7 @@ use crate::places::place_of;
 use nego_base::{AgentId, AgentSet};
 
 /// The least values that the agents may have after the case.
-pub(crate) fn least_values(sizes: &Sizes, case: &Case, old: &[u16; 16]) -> [u16; 16]
+fn least_values(sizes: &Sizes, case: &Case, old: &[u16; 16]) -> [u16; 16]
     requires agents { All (SetBelow (length sizes.now)) case.now.sets }
     requires fits { AssignsBelow sizes.now case.now }
     requires once { AssignsOnce case.now }
@@ -30,6 +31,22 @@ pub(crate) fn least_values(sizes: &Sizes, case: &Case, old: &[u16; 16]) -> [u16;
         new[place_of(set.agent)] = least_given(set.term, sizes.size(set.agent), old);
     }
     new
+}
+
+/// The number of the least values that the agents may have after the case and these joint data, which have these values.
+pub(crate) fn least_number(sizes: &Sizes, case: &Case, d: u16, old: &[u16; 16]) -> u16
+    requires agents { All (SetBelow (length sizes.now)) case.now.sets }
+    requires fits { AssignsBelow sizes.now case.now }
+    requires once { AssignsOnce case.now }
+    requires below { d < data_count sizes.now }
+    requires values { old.now ≡ tuple_of sizes.now d }
+    ensures value { result ≡ joint sizes.now (least_values sizes.now case.now.sets (split sizes.now d)) }
+    ensures in_range { result < data_count sizes.now }
+{
+    if case.sets.is_empty() {
+        return d;
+    }
+    sizes.joint(&least_values(sizes, case, old))
 }
 
 /// The least value that the term gives an agent of this size.
@@ -75,13 +92,27 @@ fn is_any(term: Term) -> bool
     matches!(term, Term::Any)
 }
 
-/// The joint data in which no agent but the free ones has a value above 0.
-pub(crate) fn offsets(sizes: &Sizes, free: AgentSet) -> BitRow
+/// The offsets of the free agents: the joint data in which no other agent has a value above 0. `None` where no agent is
+/// free, and the one offset is 0. The values are those of all joint data.
+pub(crate) fn offsets(sizes: &Sizes, values: &[[u16; 16]], free: AgentSet) -> Option<BitRow>
+    requires sizes { AreSizes sizes.now }
+    requires values { values.now ≡ map (tuple_of sizes.now) (range_with_len 0 (data_count sizes.now)) }
+    ensures { (least e : ℕ) → is_above result least e ≡ list_any (λ o. least + o == e) (offsets_of sizes.now free) }
+{
+    if free.least().is_none() {
+        return None;
+    }
+    Some(row_of_offsets(sizes, values, free))
+}
+
+/// The offsets of the free agents as a row of bits.
+fn row_of_offsets(sizes: &Sizes, values: &[[u16; 16]], free: AgentSet) -> BitRow
+    requires { values.now ≡ map (tuple_of sizes.now) (range_with_len 0 (data_count sizes.now)) }
     ensures { (o : ℕ) → is_set result.words o ≡ (is_offset free (tuple_of sizes.now o) && nat_lt o (data_count sizes.now)) }
 {
     let mut offsets = BitRow::none();
     for o in 0..sizes.all() {
-        if is_offset(free, &sizes.split(o)) {
+        if is_offset(free, &values[o as usize]) {
             offsets.insert(o);
         }
     }

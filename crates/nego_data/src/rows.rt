@@ -4,7 +4,7 @@ ghost use Rattle.nego_base.specs.Members.{is_in};
 ghost use Rattle.nego_data.specs.BitRows.{is_moved};
 ghost use Rattle.nego_data.specs.Tables.{IsTable, is_related, row_words, word_place};
 
-use crate::bit_row::{BitRow, WORD_BITS};
+use crate::bit_row::{BitRow, WORD_BITS, set_bit};
 use nego_base::Memory;
 use std::alloc::Global;
 use std::marker::Model;
@@ -48,6 +48,19 @@ impl Rows {
         let words = row_words(self.all);
         let start = d as usize * words;
         offsets.add_moved(least, &mut self.words[start..start + words]);
+    }
+
+    /// Relates d to e too.
+    pub(crate) fn relate(&mut self, d: u16, e: u16)
+        requires from { d < length self.old }
+        requires to { e < length self.old }
+        ensures table { IsTable (length self.old) self.new }
+        ensures related { (b f : ℕ) → b < length self.old → f < length self.old →
+            is_related self.new b f ≡ (is_related self.old b f || (b == d && f == e)) }
+    {
+        let words = row_words(self.all);
+        let start = d as usize * words;
+        set_bit(&mut self.words[start..start + words], e);
     }
 
     /// Whether d is related to e. Both are below the number of joint data.

@@ -1,35 +1,13 @@
-use Rattle.std.proofs.Common.{◌≡◌, ◌+◌, ◌∙◌, ℕ, Bool, true, false, ◌&&◌, ◌||◌, ◌==◌, nat_lt, inl, inr, sym, ap, arith}
-use Rattle.std.proofs.lemmas.Bool.{cases_eq}
-use Rattle.std.proofs.lemmas.Bool.Decides.{nat_tests}
-use Rattle.nego_data.specs.BitRows.{is_set}
-use Rattle.nego_data.specs.Sizes.{tuple_of}
-use Rattle.nego_data.specs.Given.{is_offset}
+use Rattle.std.proofs.Common.{◌≡◌, [], rules}
+use Rattle.nego_data.proofs.Counts.{data_count-pos}
+use Rattle.nego_data.proofs.Offsets.{moved_offsets}
+use Rattle.nego_data.proofs.NoOffsets.{no_offsets}
 use Rattle.nego_data.proofs.giving.offsets.Goals as goal
-use Rattle.nego_data.proofs.giving.offsets.Goals.{then-is_offset, else-is_offset}
 
--- one number more, which passes the test
-one_more : (test : ℕ → Bool) (o e : ℕ) → test o ≡ true → ((test e && nat_lt e o) || e == o) ≡ (test e && nat_lt e (o + 1))
-one_more test o e h = elim (cases_eq e o) [
-  | inl same ↦ let passes : test e ≡ true = ap test same ∙ h in grind (arith, nat_tests)
-  | inr other ↦ grind (arith, nat_tests)
-]
+pub returns-then-is_none : goal.returns-then-is_none
+returns-then-is_none c least e =
+    let none : c.args.free ≡ [] = search rules in
+    no_offsets c.args.sizes.now c.args.free least e c.requires.sizes.few_agents (data_count-pos c.args.sizes.now (λ k d l. (c.requires.sizes.each k d l).0)) none
 
--- one number more, which doesn't pass the test
-one_less : (test : ℕ → Bool) (o e : ℕ) → test o ≡ false → (test e && nat_lt e o) ≡ (test e && nat_lt e (o + 1))
-one_less test o e h = elim (cases_eq e o) [
-  | inl same ↦ let fails : test e ≡ false = ap test same ∙ h in grind (arith, nat_tests)
-  | inr other ↦ grind (arith, nat_tests)
-]
-
-pub loop-o-preserved : goal.loop-o-preserved
-loop-o-preserved c =
-    let o = c.loop-o.o in
-    let test : ℕ → Bool = λ n. is_offset c.args.free (tuple_of c.args.sizes.now n) in
-    let tested : c.is_offset.result ≡ test o = c.is_offset.ensures ∙ ap (is_offset c.args.free) c.split.ensures.value in
-    elim c.if-is_offset.branch [
-      | then-is_offset w ↦ λ e.
-          ap (λ offsets. is_set offsets.words e) w.offsets-is ∙ w.insert.ensures e
-          ∙ ap (λ b. b || e == o) (c.loop-o.invariant e) ∙ one_more test o e (sym tested ∙ w.if-is_offset.true)
-      | else-is_offset w ↦ λ e.
-          ap (λ offsets. is_set offsets.words e) w.offsets-is ∙ c.loop-o.invariant e ∙ one_less test o e (sym tested ∙ w.if-is_offset.false)
-    ]
+pub returns : goal.returns
+returns c least e = moved_offsets c.args.sizes.now c.args.free c.row_of_offsets.result.words least e c.row_of_offsets.ensures
