@@ -1,14 +1,15 @@
 -- Laws of the parties' part of joint data: of its sizes, its values, and what cases that name parties alone relate.
 use Rattle.std.proofs.Common.{◌≡◌, ⊎_elim, ℕ, zero, suc, ◌+◌, ◌<◌, ◌≤◌, ◌&&◌, ◌||◌, ◌==◌, nat_lt, Bool, true, false, List, [], ◌∷◌, length, take, slice_index, slice_index_or, get_or, Option, Some, None, IsTrue, refl, sym, subst, ap, ap₂, ◌∙◌, arith, eqb-true, eq-eqb, lt-ltb}
-use Rattle.std.specs.Prelude.{if◌then◌else◌, Result, Ok, Err, IsOk}
+use Rattle.std.specs.Prelude.{nat_eq, replicate, ◌++◌, ◌-◌, if◌then◌else◌, Result, Ok, Err, IsOk}
 use Rattle.std.specs.Result.{result_err}
 use Rattle.std.proofs.lemmas.Option.{none-some}
 use Rattle.std.specs.List.{All, list_any, range_with_len}
 use Rattle.std.proofs.lemmas.Bool.{and_parts, and_from, cases_lt, cases_Bool, or_left, or_right, false≢true}
-use Rattle.std.proofs.lemmas.List.{get_or_past, get_or-take, get_or_default, length-take-le, ext_get_or}
+use Rattle.std.proofs.lemmas.List.{take_at, get_or_past, get_or-take, get_or_default, length-take-le, ext_get_or}
 use Rattle.std.proofs.lemmas.List.FromFn.{fill_by_all, get_or-map-range_with_len, length-map-range_with_len}
 use Rattle.std.proofs.lemmas.List.Elements.{All-nil, All-cons, All-head, All-tail, All-weaker}
 use native.Mathlib.Nat.{mul-le-mul}
+use Rattle.std.specs.Cmp.Lexicographic.{pointwise, bytes_decides}
 use Rattle.nego_base.specs.Members.{is_in}
 use Rattle.nego_base.proofs.BoolLaws.{same_tests, any_passes}
 use Rattle.nego_base.proofs.Members.{All-member, all_at, all_from, is_in-range_zero}
@@ -22,11 +23,11 @@ use Rattle.nego_data.specs.CaseForm.{NamesOnly, AreAmong, AssignsBelow, AllCover
 use Rattle.nego_data.specs.Parts.{part_from, part_sizes, part_values, part_number, are_kept, widened, IsPart}
 use Rattle.nego_data.specs.Tables.{IsTable, is_related, rows_by}
 use Rattle.nego_data.proofs.Counts.{front-values, joint-front, joint-in_range}
-use Rattle.nego_data.proofs.JointData.{length-split, split-joint}
+use Rattle.nego_data.proofs.JointData.{same_data, length-split, split-below, split-joint}
 use Rattle.nego_data.proofs.Tuples.{at-tuple_of, tuple_of-below}
 use Rattle.nego_data.proofs.Assigned.{follow-at, follow_from, term_for-some}
 use Rattle.nego_data.proofs.CaseRelations.{SameAt, covers-same, gives-same, term_for-stranger, case_relates-changes}
-use Rattle.nego_data.proofs.Tables.{length-rows_by, rows_by-table, rows_by-related, rows_of-relates}
+use Rattle.nego_data.proofs.Tables.{same_tables, length-rows_by, rows_by-table, rows_by-related, rows_of-relates}
 use Rattle.nego_data.proofs.Additions.{table_of_cases}
 
 -- what succeeds where it answers no error
@@ -375,3 +376,44 @@ module _ (parties sizes part : List ℕ) (rows table : List (List ℕ)) (is : Is
       ∙ ap (λ b. b && is_related rows (part_number parties sizes d) (part_number parties sizes e)) (r ∙ ap₂ (are_kept parties) o w)
       ∙ sym (widened-related parties sizes rows d e (datum-below d h) (datum-below e k))
       ∙ ap (λ t. is_related t d e) seen
+
+-- where nobody else has a choice, the table of the parties' values is that of all joint data
+module _ (parties sizes : List ℕ) (ok : AreSizes sizes) (everyone : part_sizes parties sizes ≡ sizes) where
+  -- who is no party has the value 0
+  none-else : (d a : ℕ) → d < data_count sizes → a < length sizes → is_in a parties ≡ false → slice_index (split sizes d) a ≡ 0
+  none-else d a h k other =
+      let below = split-below sizes d a h k in
+      let one : slice_index sizes a ≡ 1 = ap (λ xs. slice_index xs a) (sym everyone) ∙ at-part parties sizes a k ∙ ap (λ b. if b then slice_index sizes a else 1) other in
+      omega (arith, below, one)
+
+  number-everyone : (d : ℕ) → d < data_count sizes → part_number parties sizes d ≡ d
+  number-everyone d h = same_data sizes (part_number parties sizes d) d (subst (λ p. part_number parties sizes d < data_count p) everyone (number-below parties sizes ok d h)) h (λ a k.
+      ap (λ p. slice_index (split p (part_number parties sizes d)) a) (sym everyone) ∙ split-number parties sizes ok d a h k ∙ ⊎_elim
+      (λ party. ap (λ b. if b then slice_index (split sizes d) a else 0) party)
+      (λ other. ap (λ b. if b then slice_index (split sizes d) a else 0) other ∙ sym (none-else d a h k other))
+      (cases_Bool (is_in a parties)))
+
+  pub widened-everyone : (rows : List (List ℕ)) → IsTable (data_count sizes) rows → widened parties sizes rows ≡ rows
+  widened-everyone rows table = same_tables (data_count sizes) (widened parties sizes rows) rows
+      (subst (λ n. IsTable n (widened parties sizes rows)) (length-widened parties sizes rows) (widened-table parties sizes rows)) table (λ d e h k.
+      widened-related parties sizes rows d e h k
+      ∙ ap (λ b. b && is_related rows (part_number parties sizes d) (part_number parties sizes e)) (kept-from parties sizes ok d e (λ a l other. none-else d a h l other ∙ sym (none-else e a k l other)))
+      ∙ ap₂ (is_related rows) (number-everyone d h) (number-everyone e k))
+
+-- a table that is kept so is its rows, where nobody else has a choice
+pub rows-of_everyone : (parties sizes own : List ℕ) (rows table : List (List ℕ)) → IsPart parties sizes own rows → widened parties sizes rows ≡ table → own ≡ sizes → rows ≡ table
+rows-of_everyone parties sizes own rows table is seen everyone =
+    sym (widened-everyone parties sizes is.sizes (sym is.part_is ∙ everyone) rows (subst (λ p. IsTable (data_count p) rows) everyone is.rows)) ∙ seen
+
+-- sizes that are kept alike are the same
+pub sizes_from_eq : (one two : List ℕ) →
+    (length one == length two && (pointwise nat_eq (one ++ replicate (16 - length one) 0) (two ++ replicate (16 - length two) 0) && data_count one == data_count two)) ≡ true → one ≡ two
+sizes_from_eq one two h =
+    let parts = and_parts (length one == length two) (pointwise nat_eq (one ++ replicate (16 - length one) 0) (two ++ replicate (16 - length two) 0) && data_count one == data_count two) h in
+    let lists = and_parts (pointwise nat_eq (one ++ replicate (16 - length one) 0) (two ++ replicate (16 - length two) 0)) (data_count one == data_count two) parts.1 in
+    let same = (bytes_decides (one ++ replicate (16 - length one) 0) (two ++ replicate (16 - length two) 0)).0 lists.0 in
+    let long = eqb-true (length one) (length two) parts.0 in
+    sym (take_at one (replicate (16 - length one) 0) (length one) refl)
+    ∙ ap (take (length one)) same
+    ∙ ap (λ n. take n (two ++ replicate (16 - length two) 0)) long
+    ∙ take_at two (replicate (16 - length two) 0) (length two) refl

@@ -1,5 +1,5 @@
 //! The parties' part of joint data, which is all that an outcome reads and changes.
-ghost use Rattle.std.specs.Prelude.{◌≡◌, ◌<◌, length, slice_index, if◌then◌else◌};
+ghost use Rattle.std.specs.Prelude.{◌≡◌, IsTrue, ◌<◌, length, slice_index, if◌then◌else◌};
 ghost use Rattle.nego_base.specs.Members.{is_in};
 ghost use Rattle.nego_data.specs.Data.{data_count, joint};
 ghost use Rattle.nego_data.specs.Sizes.{AreBelow, AreSizes};
@@ -70,4 +70,11 @@ pub(crate) fn are_kept(parties: AgentSet, old: &[u16; 16], new: &[u16; 16]) -> b
     ensures { result ≡ are_kept parties old.now new.now }
 {
     (0..16).all(|k| parties.has(AgentId(k)) || old[k as usize] == new[k as usize])
+}
+
+/// Whether these are the same sizes, so that nobody but the parties has a choice.
+pub(crate) fn are_same(one: &Sizes, two: &Sizes) -> bool
+    ensures { IsTrue result → one.now ≡ two.now }
+{
+    one == two
 }

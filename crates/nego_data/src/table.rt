@@ -5,7 +5,7 @@ ghost use Rattle.nego_data.specs.Parts.{widened, IsPart};
 ghost use Rattle.nego_data.specs.Tables.{IsTable};
 
 use crate::Sizes;
-use crate::parts::{are_kept, part_number};
+use crate::parts::{are_kept, are_same, part_number};
 use crate::rows::Rows;
 use nego_base::AgentSet;
 use std::marker::Model;
@@ -52,6 +52,9 @@ impl Table {
         ensures value { result ≡ is_in e (slice_index_or self.now d []) }
         ensures table { IsTable (length self.now) self.now }
     {
+        if are_same(&self.part, &self.sizes) {
+            return self.rows.related(d, e);
+        }
         let old = self.sizes.split(d);
         let new = self.sizes.split(e);
         let d = part_number(self.parties, &self.part, &old);
@@ -73,6 +76,9 @@ impl Table {
         ensures value { result ≡ length (slice_index_or self.now d []) }
         ensures table { IsTable (length self.now) self.now }
     {
+        if are_same(&self.part, &self.sizes) {
+            return self.rows.count(d);
+        }
         let all = self.all();
         (0..all).filter(|e| self.related(d, *e)).count() as u16
     }
@@ -84,6 +90,9 @@ impl Table {
         ensures value { result ≡ slice_get (slice_index_or self.now d []) k }
         ensures table { IsTable (length self.now) self.now }
     {
+        if are_same(&self.part, &self.sizes) {
+            return self.rows.nth(d, k);
+        }
         let all = self.all();
         let mut row = (0..all).filter(|e| self.related(d, *e));
         row.nth(k as usize)

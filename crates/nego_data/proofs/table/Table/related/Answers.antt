@@ -1,6 +1,6 @@
-use Rattle.std.proofs.Common.{◌∙◌, ◌&&◌, [], slice_index_or, sym, ap}
+use Rattle.std.proofs.Common.{◌≡◌, ◌∙◌, ◌<◌, ◌&&◌, [], length, slice_index_or, sym, subst, ap}
 use Rattle.nego_base.specs.Members.{is_in}
-use Rattle.nego_data.proofs.PartLaws.{datum-below, table-seen, values-fit, related-seen}
+use Rattle.nego_data.proofs.PartLaws.{datum-below, table-seen, values-fit, related-seen, rows-of_everyone}
 use Rattle.nego_data.proofs.table.Table.related.Goals as goal
 
 pub split-old-requires : goal.split-old-requires
@@ -17,7 +17,7 @@ part_number-e-requires c = values-fit c.self.inside.parties c.self.inside.sizes 
 
 pub returns-then-are_kept-clause-value : goal.returns-then-are_kept-clause-value
 returns-then-are_kept-clause-value c =
-    c.related.ensures.value
+    c.related-then-are_kept.ensures.value
     ∙ sym (ap (λ b. b && is_in c.part_number-e.result (slice_index_or c.self.inside.rows c.part_number-d.result [])) c.if-are_kept.true)
     ∙ related-seen c.self.inside.parties c.self.inside.sizes c.self.inside.part c.self.inside.rows c.args.self.now c.self.invariant c.self.view_is c.args.d c.args.e
     c.part_number-d.result c.part_number-e.result c.split-old.result c.split-new.result c.are_kept.result c.requires.from c.requires.to c.split-old.ensures.value c.split-new.ensures.value
@@ -36,3 +36,24 @@ returns-else-are_kept-clause-value c =
 
 pub returns-else-are_kept-clause-table : goal.returns-else-are_kept-clause-table
 returns-else-are_kept-clause-table c = table-seen c.self.inside.parties c.self.inside.sizes c.self.inside.part c.self.inside.rows c.args.self.now c.self.invariant c.self.view_is
+
+pub related-requires-clause-from : goal.related-requires-clause-from
+related-requires-clause-from c =
+    let everyone : c.self.inside.part ≡ c.self.inside.sizes = c.are_same.ensures c.if-are_same.true in
+    let same = rows-of_everyone c.self.inside.parties c.self.inside.sizes c.self.inside.part c.self.inside.rows c.args.self.now c.self.invariant c.self.view_is everyone in
+    subst (λ table. c.args.d < length table) (sym same) c.requires.from
+
+pub related-requires-clause-to : goal.related-requires-clause-to
+related-requires-clause-to c =
+    let everyone : c.self.inside.part ≡ c.self.inside.sizes = c.are_same.ensures c.if-are_same.true in
+    let same = rows-of_everyone c.self.inside.parties c.self.inside.sizes c.self.inside.part c.self.inside.rows c.args.self.now c.self.invariant c.self.view_is everyone in
+    subst (λ table. c.args.e < length table) (sym same) c.requires.to
+
+pub returns-then-are_same-clause-value : goal.returns-then-are_same-clause-value
+returns-then-are_same-clause-value c =
+    let everyone : c.self.inside.part ≡ c.self.inside.sizes = c.are_same.ensures c.if-are_same.true in
+    let same = rows-of_everyone c.self.inside.parties c.self.inside.sizes c.self.inside.part c.self.inside.rows c.args.self.now c.self.invariant c.self.view_is everyone in
+    c.related.ensures.value ∙ ap (λ table. is_in c.args.e (slice_index_or table c.args.d [])) same
+
+pub returns-then-are_same-clause-table : goal.returns-then-are_same-clause-table
+returns-then-are_same-clause-table c = table-seen c.self.inside.parties c.self.inside.sizes c.self.inside.part c.self.inside.rows c.args.self.now c.self.invariant c.self.view_is
