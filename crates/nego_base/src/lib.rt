@@ -32,6 +32,7 @@ pub use line::{Line, Lines, Word};
 pub use memory::Memory;
 pub use name::is_name;
 pub use number::{is_numeral, number_of};
+pub use number_set::NumberSet;
 pub use op::Op;
 pub use reserved::Reserved;
 pub use scanning::scan;

@@ -1,0 +1,23 @@
+-- What a summary answers on a diagram: to which joint data its final outcomes relate a start.
+use Rattle.std.specs.Prelude.{◌≡◌, ◌↔◌, ◌⊎◌, ℕ, ◌<◌, List, slice_get, All, AllPairs, Contains, MatchOption, ⊤}
+use Rattle.nego_model.specs.Joining.{RelationTest, By}
+use Rattle.nego_model.specs.Expression.{Means, NodeBases}
+use Rattle.nego_model.specs.Summary.{PlainSummary, IsFormed}
+
+-- The summary is formed, and each outcome among its nodes is below the count of outcomes.
+pub record IsOver (outcomes : ℕ) (summary : PlainSummary) : Type 0 where
+  pub formed : IsFormed summary
+  pub bases : All (NodeBases (λ o. o < outcomes) (λ i. ⊤)) summary.nodes
+
+-- There is a final outcome at the place, and its node relates the start to e.
+abbrev pub IsAnswer : RelationTest → PlainSummary → ℕ → ℕ → ℕ → Type 0
+IsAnswer test summary start place e = MatchOption (slice_get summary.finals place) ⊥ (λ outcome. Means (By test) summary.nodes outcome.node start e)
+
+-- One pair comes before another: its place is less, or they have one place and its joint data are less.
+abbrev pub ComesBefore : ℕ × ℕ → ℕ × ℕ → Type 0
+ComesBefore pair later = (pair.0 < later.0) ⊎ ((pair.0 ≡ later.0) × (pair.1 < later.1))
+
+-- The list has exactly the pairs of a place and joint data that are answers, and it rises.
+pub record AreAnswers (test : RelationTest) (summary : PlainSummary) (start : ℕ) (answers : List (ℕ × ℕ)) : Type 0 where
+  pub each : (place e : ℕ) → Contains answers (place, e) ↔ IsAnswer test summary start place e
+  pub rise : AllPairs ComesBefore answers
