@@ -1,3 +1,5 @@
 pub mod Counts
 pub mod Words
 pub mod Places
+pub mod Made
+pub mod Keeping

@@ -1,3 +1,6 @@
 pub mod Answers
 pub mod Rows
 pub mod Kept
+pub mod Begun
+pub mod Frames
+pub mod Making

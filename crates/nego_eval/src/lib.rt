@@ -2,11 +2,11 @@
 #![tactic(auto)]
 
 
-
+mod frame;
 mod kept;
+mod making;
 
 mod row;
-
-
+mod rows;
 
 

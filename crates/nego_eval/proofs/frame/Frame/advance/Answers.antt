@@ -1,0 +1,34 @@
+use Rattle.std.proofs.Common.{sym, ◌∙◌, arith, rules}
+use Rattle.nego_model.specs.Joining.{By}
+use Rattle.nego_model.specs.Expression.{Base, Join, Then, Star}
+use Rattle.nego_model.specs.Diagram.{relation_of}
+use Rattle.nego_eval.proofs.Made.{base_made}
+use Rattle.nego_eval.proofs.frame.Frame.advance.Goals as goal
+
+pub join-requires-clause-one : goal.join-requires-clause-one
+join-requires-clause-one c = c.requires.rows.nodes c.args.self.now.pair.node.0 (Join c.in-Some-Join.one.0 c.in-Some-Join.two.0) (search rules) 0 0 (omega arith)
+
+pub join-requires-clause-two : goal.join-requires-clause-two
+join-requires-clause-two c = c.requires.rows.nodes c.args.self.now.pair.node.0 (Join c.in-Some-Join.one.0 c.in-Some-Join.two.0) (search rules) 1 0 (omega arith)
+
+pub through-requires-clause-first : goal.through-requires-clause-first
+through-requires-clause-first c = c.requires.rows.nodes c.args.self.now.pair.node.0 (Then c.in-Some-Then.first.0 c.in-Some-Then.second.0) (search rules) 0 0 (omega arith)
+
+pub through-requires-clause-second : goal.through-requires-clause-second
+through-requires-clause-second c = c.requires.rows.nodes c.args.self.now.pair.node.0 (Then c.in-Some-Then.first.0 c.in-Some-Then.second.0) (search rules) 1 0 (omega arith)
+
+pub through-requires-clause-going : goal.through-requires-clause-going
+through-requires-clause-going c = c.requires.frame.going (Then c.in-Some-Then.first.0 c.in-Some-Then.second.0) (search rules)
+
+pub close-requires-clause-child : goal.close-requires-clause-child
+close-requires-clause-child c = c.requires.rows.nodes c.args.self.now.pair.node.0 (Star c.in-Some-Star.child.0) (search rules) 0 0 (omega arith)
+
+pub close-requires-clause-going : goal.close-requires-clause-going
+close-requires-clause-going c = c.requires.frame.going (Star c.in-Some-Star.child.0) (search rules)
+
+pub returns-in-Some-Base-clause-row : goal.returns-in-Some-Base-clause-row
+returns-in-Some-Base-clause-row c =
+    let rows = c.args.rows.now in
+    let pair = c.args.self.now.pair in
+    base_made (By (relation_of rows.diagram.now)) rows.nodes.now.nodes c.requires.rows.nodes pair.node.0 c.in-Some-Base.o.0 rows.joint pair.start c.base-self.result (search rules)
+    (record { exact = λ e. (λ m. sym (c.base-self.ensures.exact e) ∙ m, λ w. c.base-self.ensures.exact e ∙ w); below = c.base-self.ensures.below })

@@ -1,0 +1,173 @@
+//! Rows in the making.
+ghost use Rattle.std.specs.Prelude.{◌≡◌, ℕ, ◌<◌, ◌≤◌, false, true, slice_get, Some, IfErr, OnOk};
+ghost use Rattle.nego_base.specs.Members.{is_in};
+ghost use Rattle.nego_model.specs.Expression.{Join, Then, Star};
+ghost use Rattle.nego_eval.specs.Rows.{lacked};
+ghost use Rattle.nego_eval.specs.Frames.{AreRows, IsPair, IsRowAt, IsWanted, IsGoing, IsFrame, meaning, kept_row};
+
+use crate::row::Row;
+use crate::rows::{Pair, Rows};
+use nego_base::NodeId;
+use nego_expr::Node;
+
+/// A row in the making: the joint data that were met so far, and those that were followed.
+#[derive(Debug, Drop)]
+pub(crate) struct Frame {
+    pub(crate) pair: Pair,
+    pub(crate) met: Row,
+    pub(crate) followed: Row,
+}
+
+impl Frame {
+    /// The row of a pair before anything is met.
+    pub(crate) fn new(pair: Pair) -> Frame
+        ensures pair { result.pair ≡ pair }
+        ensures met { (e : ℕ) → is_in e result.met ≡ false }
+        ensures followed { (e : ℕ) → is_in e result.followed ≡ false }
+    {
+        Frame {
+            pair,
+            met: Row::none(),
+            followed: Row::none(),
+        }
+    }
+
+    /// Goes on with the row until it is whole, or until the row of another pair is wanted, which it answers.
+    pub(crate) fn advance(&mut self, rows: &Rows) -> Result<(), Pair>
+        requires rows { AreRows rows.now }
+        requires frame { IsFrame rows.now self.old }
+        ensures pair { self.new.pair ≡ self.old.pair }
+        ensures frame { IsFrame rows.now self.new }
+        ensures row { OnOk result (IsRowAt rows.now self.old.pair self.new.met) }
+        ensures wanted { IfErr result (λ wanted. IsWanted rows.now self.old.pair wanted) }
+    {
+        match rows.nodes.get(self.pair.node) {
+            None => unreachable!(),
+            Some(Node::Base(o)) => {
+                self.met = rows.base(o, self.pair.start);
+                Ok(())
+            }
+            Some(Node::Join(one, two)) => self.join(rows, one, two),
+            Some(Node::Then(first, second)) => self.through(rows, first, second),
+            Some(Node::Star(child)) => self.close(rows, child),
+        }
+    }
+
+    /// What either node relates.
+    fn join(&mut self, rows: &Rows, one: NodeId, two: NodeId) -> Result<(), Pair>
+        requires rows { AreRows rows.now }
+        requires there { IsPair rows.now self.old.pair }
+        requires one { one.0 < self.old.pair.node.0 }
+        requires two { two.0 < self.old.pair.node.0 }
+        requires node { slice_get rows.now.nodes.now.nodes self.old.pair.node.0 ≡ Some (Join one.0 two.0) }
+        ensures pair { self.new.pair ≡ self.old.pair }
+        ensures row { OnOk result (IsRowAt rows.now self.old.pair self.new.met) }
+        ensures wanted { IfErr result (λ wanted. IsWanted rows.now self.old.pair wanted) }
+    {
+        let start = self.pair.start;
+        let ones = rows.find(Pair { node: one, start })?;
+        let twos = rows.find(Pair { node: two, start })?;
+        let mut met = Row::none();
+        met.add(ones);
+        met.add(twos);
+        self.met = met;
+        Ok(())
+    }
+
+    /// What the first node relates, and then the second.
+    fn through(&mut self, rows: &Rows, first: NodeId, second: NodeId) -> Result<(), Pair>
+        requires rows { AreRows rows.now }
+        requires there { IsPair rows.now self.old.pair }
+        requires first { first.0 < self.old.pair.node.0 }
+        requires second { second.0 < self.old.pair.node.0 }
+        requires node { slice_get rows.now.nodes.now.nodes self.old.pair.node.0 ≡ Some (Then first.0 second.0) }
+        requires going { IsGoing rows.now self.old second.0 }
+        ensures pair { self.new.pair ≡ self.old.pair }
+        ensures going { IsGoing rows.now self.new second.0 }
+        ensures row { OnOk result (IsRowAt rows.now self.old.pair self.new.met) }
+        ensures wanted { IfErr result (λ wanted. IsWanted rows.now self.old.pair wanted) }
+    {
+        let start = self.pair.start;
+        let middle = rows.find(Pair { node: first, start })?;
+        while let Some(y) = middle.least_besides(&self.followed) {
+            self.follow(rows, second, y)?;
+        }
+        Ok(())
+    }
+
+    /// What the node relates any number of times. Each number is followed once.
+    fn close(&mut self, rows: &Rows, child: NodeId) -> Result<(), Pair>
+        requires rows { AreRows rows.now }
+        requires there { IsPair rows.now self.old.pair }
+        requires child { child.0 < self.old.pair.node.0 }
+        requires node { slice_get rows.now.nodes.now.nodes self.old.pair.node.0 ≡ Some (Star child.0) }
+        requires going { IsGoing rows.now self.old child.0 }
+        ensures pair { self.new.pair ≡ self.old.pair }
+        ensures going { IsGoing rows.now self.new child.0 }
+        ensures row { OnOk result (IsRowAt rows.now self.old.pair self.new.met) }
+        ensures wanted { IfErr result (λ wanted. IsWanted rows.now self.old.pair wanted) }
+    {
+        self.met.insert(self.pair.start);
+        while let Some(y) = self.met.least_besides(&self.followed) {
+            self.step(rows, child, y)?;
+        }
+        Ok(())
+    }
+
+    /// Follows a number that a star has met: where the star's row from there is kept, all of it is followed at once. The
+    /// rows of greater starts are asked for first, so that most of a row is taken from others.
+    fn step(&mut self, rows: &Rows, child: NodeId, y: u16) -> Result<(), Pair>
+        requires rows { AreRows rows.now }
+        requires there { IsPair rows.now self.old.pair }
+        requires child { child.0 < self.old.pair.node.0 }
+        requires node { slice_get rows.now.nodes.now.nodes self.old.pair.node.0 ≡ Some (Star child.0) }
+        requires going { IsGoing rows.now self.old child.0 }
+        requires met { is_in y self.old.met ≡ true }
+        requires fresh { is_in y self.old.followed ≡ false }
+        ensures pair { self.new.pair ≡ self.old.pair }
+        ensures going { IsGoing rows.now self.new child.0 }
+        ensures grows { (e : ℕ) → is_in e self.old.met ≡ true → is_in e self.new.met ≡ true }
+        ensures fewer { OnOk result (lacked self.new.followed < lacked self.old.followed) }
+        ensures wanted { IfErr result (λ wanted. IsWanted rows.now self.old.pair wanted) }
+    {
+        let other = Pair {
+            node: self.pair.node,
+            start: y,
+        };
+        match rows.find(other) {
+            Ok(closed) => {
+                self.met.add(closed);
+                self.followed.add(closed);
+                self.followed.insert(y);
+                Ok(())
+            }
+            Err(wanted) => {
+                if self.pair.start < y {
+                    return Err(wanted);
+                }
+                self.follow(rows, child, y)
+            }
+        }
+    }
+
+    /// Follows a number by the next step: all that the child relates to it is met.
+    fn follow(&mut self, rows: &Rows, child: NodeId, y: u16) -> Result<(), Pair>
+        requires rows { AreRows rows.now }
+        requires there { IsPair rows.now self.old.pair }
+        requires child { child.0 < self.old.pair.node.0 }
+        requires start { y < rows.now.joint }
+        requires fresh { is_in y self.old.followed ≡ false }
+        requires sound { (e : ℕ) → meaning rows.now child.0 y e → meaning rows.now self.old.pair.node.0 self.old.pair.start e }
+        requires going { IsGoing rows.now self.old child.0 }
+        ensures pair { self.new.pair ≡ self.old.pair }
+        ensures going { IsGoing rows.now self.new child.0 }
+        ensures grows { (e : ℕ) → is_in e self.old.met ≡ true → is_in e self.new.met ≡ true }
+        ensures fewer { OnOk result (lacked self.new.followed < lacked self.old.followed) }
+        ensures wanted { IfErr result (λ wanted. IsWanted rows.now self.old.pair wanted) }
+    {
+        let row = rows.find(Pair { node: child, start: y })?;
+        self.met.add(row);
+        self.followed.insert(y);
+        Ok(())
+    }
+}

@@ -1,0 +1,69 @@
+//! The making of rows: what is still to be made stands on a list of its own.
+ghost use Rattle.std.specs.Prelude.{◌≡◌, ◌≢◌, ◌<◌, OnOk};
+ghost use Rattle.nego_eval.specs.Kept.{open_places};
+ghost use Rattle.nego_eval.specs.Frames.{AreAlike, IsPair, IsFrame, kept_row};
+ghost use Rattle.nego_eval.specs.Making.{AreMaking};
+
+use crate::frame::Frame;
+use crate::rows::{Pair, Rows};
+use nego_base::{Memory, Seq};
+
+/// Rows that are kept, and rows in the making that wait for others.
+#[derive(Debug, Drop)]
+pub(crate) struct Making<'a> {
+    pub(crate) rows: Rows<'a>,
+    pub(crate) waiting: Seq<Frame>,
+}
+
+impl<'a> Making<'a> {
+    /// Makes rows until that of the pair is kept.
+    pub(crate) fn make(&mut self, pair: Pair) -> Result<(), Memory>
+        requires making { AreMaking self.old }
+        requires there { IsPair self.old.rows pair }
+        ensures alike { AreAlike self.old.rows self.new.rows }
+        ensures making { OnOk result (AreMaking self.new) }
+        ensures row { OnOk result (kept_row self.new.rows pair ≢ None) }
+    {
+        while self.rows.find(pair).is_err() {
+            let frame = self.next(pair);
+            self.finish(frame)?;
+        }
+        Ok(())
+    }
+
+    /// The latest row that waits and isn't made yet; where there is none, that of the pair.
+    fn next(&mut self, pair: Pair) -> Frame
+        requires making { AreMaking self.old }
+        requires there { IsPair self.old.rows pair }
+        requires vacant { kept_row self.old.rows pair ≡ None }
+        ensures rows { self.new.rows ≡ self.old.rows }
+        ensures making { AreMaking self.new }
+        ensures frame { IsFrame self.old.rows result }
+        ensures vacant { kept_row self.old.rows result.pair ≡ None }
+    {
+        while let Some(frame) = self.waiting.pop() {
+            if self.rows.find(frame.pair).is_err() {
+                return frame;
+            }
+        }
+        Frame::new(pair)
+    }
+
+    /// Makes a row, or one that it stands on; those that stand on it wait.
+    fn finish(&mut self, first: Frame) -> Result<(), Memory>
+        requires making { AreMaking self.old }
+        requires frame { IsFrame self.old.rows first }
+        requires vacant { kept_row self.old.rows first.pair ≡ None }
+        ensures alike { AreAlike self.old.rows self.new.rows }
+        ensures making { OnOk result (AreMaking self.new) }
+        ensures fewer { OnOk result (open_places self.new.rows.kept < open_places self.old.rows.kept) }
+    {
+        let mut frame = first;
+        while let Err(wanted) = frame.advance(&self.rows) {
+            self.waiting.push(frame)?;
+            frame = Frame::new(wanted);
+        }
+        let Frame { pair, met, followed: _ } = frame;
+        self.rows.keep(pair, met)
+    }
+}
