@@ -3,3 +3,4 @@ pub mod Words
 pub mod Places
 pub mod Made
 pub mod Keeping
+pub mod Alike

@@ -40,10 +40,8 @@ pub record AreRows (rows : Rows) : Type 0 where
   pub each : (pair : Pair) (row : List ℕ) → IsPair rows pair → kept_row rows pair ≡ Some row → IsRowAt rows pair row
 
 -- The rows that are kept may differ, and nothing else.
-pub record AreAlike (rows later : Rows) : Type 0 where
-  pub diagram : later.diagram ≡ rows.diagram
-  pub nodes : later.nodes ≡ rows.nodes
-  pub joint : later.joint ≡ rows.joint
+abbrev pub AreAlike : Rows → Rows → Type 0
+AreAlike rows later = later ≡ record rows { kept = later.kept }
 
 -- how late a pair is in the order in which rows ask for rows: by nodes, and of one node those of greater starts first
 abbrev pub rank : Pair → ℕ

@@ -1,5 +1,5 @@
 //! The making of rows: what is still to be made stands on a list of its own.
-ghost use Rattle.std.specs.Prelude.{◌≡◌, ◌≢◌, ◌<◌, OnOk};
+ghost use Rattle.std.specs.Prelude.{◌≡◌, ◌<◌, OnOk, IsSome};
 ghost use Rattle.nego_eval.specs.Kept.{open_places};
 ghost use Rattle.nego_eval.specs.Frames.{AreAlike, IsPair, IsFrame, kept_row};
 ghost use Rattle.nego_eval.specs.Making.{AreMaking};
@@ -22,9 +22,9 @@ impl<'a> Making<'a> {
         requires there { IsPair self.old.rows pair }
         ensures alike { AreAlike self.old.rows self.new.rows }
         ensures making { OnOk result (AreMaking self.new) }
-        ensures row { OnOk result (kept_row self.new.rows pair ≢ None) }
+        ensures kept { OnOk result (IsSome (kept_row self.new.rows pair)) }
     {
-        while self.rows.find(pair).is_err() {
+        while !self.rows.has(pair) {
             let frame = self.next(pair);
             self.finish(frame)?;
         }
@@ -42,7 +42,7 @@ impl<'a> Making<'a> {
         ensures vacant { kept_row self.old.rows result.pair ≡ None }
     {
         while let Some(frame) = self.waiting.pop() {
-            if self.rows.find(frame.pair).is_err() {
+            if !self.rows.has(frame.pair) {
                 return frame;
             }
         }

@@ -1,5 +1,5 @@
 //! The rows of a summary's nodes.
-ghost use Rattle.std.specs.Prelude.{◌≡◌, ℕ, ◌<◌, length, All, IfOk, OnOk, IfErr, OnErr, IsTrue, ⊤};
+ghost use Rattle.std.specs.Prelude.{◌≡◌, ℕ, ◌<◌, length, All, IfOk, OnOk, IfErr, OnErr, IsTrue, is_some, IsSome, ⊤};
 ghost use Rattle.nego_data.specs.Data.{data_count};
 ghost use Rattle.nego_base.specs.Members.{is_in};
 ghost use Rattle.nego_model.specs.Expression.{IsNodeList, NodeBases};
@@ -61,6 +61,25 @@ impl<'a> Rows<'a> {
         ensures vacant { OnErr result (kept_row self.now pair ≡ None) }
     {
         self.kept.get(self.place(pair)).ok_or(pair)
+    }
+
+    /// Whether the row of a pair is kept.
+    pub(crate) fn has(&self, pair: Pair) -> bool
+        requires rows { AreRows self.now }
+        requires there { IsPair self.now pair }
+        ensures { result ≡ is_some (kept_row self.now pair) }
+    {
+        self.kept.get(self.place(pair)).is_some()
+    }
+
+    /// The row of a pair, which is kept.
+    pub(crate) fn get(&self, pair: Pair) -> &Row
+        requires rows { AreRows self.now }
+        requires there { IsPair self.now pair }
+        requires kept { IsSome (kept_row self.now pair) }
+        ensures { IsRowAt self.now pair result.now }
+    {
+        self.kept.get(self.place(pair)).unwrap()
     }
 
     /// Keeps the row of a pair that has none.

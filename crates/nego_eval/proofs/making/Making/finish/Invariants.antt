@@ -1,0 +1,16 @@
+use Rattle.std.proofs.Common.{◌≡◌, None}
+use Rattle.nego_eval.specs.Making.{AreMaking}
+use Rattle.nego_eval.specs.Frames.{IsFrame, kept_row, rank}
+use Rattle.nego_eval.proofs.making.Making.finish.Given as goal
+
+-- the row at hand isn't kept yet
+abbrev pub invariant-loop-wanted : goal.invariant-loop-wanted
+invariant-loop-wanted l = record {
+  rows : l.self.rows ≡ l.initial.self.rows;
+  making : AreMaking l.self;
+  frame : IsFrame l.self.rows l.frame;
+  vacant : kept_row l.self.rows l.frame.pair ≡ None;
+}
+
+abbrev pub decreases-loop-wanted : goal.decreases-loop-wanted
+decreases-loop-wanted l = rank l.frame.pair
