@@ -1,9 +1,9 @@
 -- Rows in the making stay so whichever rows are kept.
-use Rattle.std.proofs.Common.{◌≡◌, List, sym, subst}
+use Rattle.std.proofs.Common.{List, sym, subst}
 use Rattle.std.specs.List.{All}
 use Rattle.nego_eval.specs.declared.rows.Rows.{Rows}
 use Rattle.nego_eval.specs.declared.frame.Frame.{Frame}
-use Rattle.nego_eval.specs.Frames.{AreRows, AreAlike, IsFrame}
+use Rattle.nego_eval.specs.Frames.{AreAlike, IsFrame}
 
 pub frame_alike : (rows later : Rows) (frame : Frame) → AreAlike rows later → IsFrame rows frame → IsFrame later frame
 frame_alike rows later frame alike h =

@@ -4,3 +4,4 @@ pub mod Places
 pub mod Made
 pub mod Keeping
 pub mod Alike
+pub mod Answering

@@ -1,10 +1,10 @@
 -- Laws of rows that are kept.
-use Rattle.std.proofs.Common.{◌≡◌, ℕ, zero, suc, ◌+◌, ◌-◌, ◌<◌, ◌≤◌, Bool, true, false, not, ◌==◌, List, [], ◌∷◌, ◌++◌, length, map, replicate, set, slice_index_or, slice_get, Option, Some, None, is_some, inl, inr, refl, sym, subst, ap, ◌∙◌, arith, eq-eqb}
-use Rattle.std.specs.List.{All, count_by}
-use Rattle.std.proofs.lemmas.Bool.{cases_eq, ne_eqb, eqb-true}
-use Rattle.std.proofs.lemmas.Option.{none-some, slice_get-get_or, slice_get_within}
+use Rattle.std.proofs.Common.{◌≡◌, ℕ, zero, suc, ◌+◌, ◌-◌, ◌<◌, ◌≤◌, not, ◌==◌, List, [], ◌∷◌, ◌++◌, length, map, replicate, set, slice_index_or, slice_get, Option, Some, None, is_some, inl, inr, refl, sym, ap, ◌∙◌, arith, eq-eqb}
+use Rattle.std.specs.List.{All}
+use Rattle.std.proofs.lemmas.Bool.{cases_eq, ne_eqb}
+use Rattle.std.proofs.lemmas.Option.{none-some, slice_get-get_or}
 use Rattle.std.proofs.lemmas.List.{map-set, get_or-map, length-set, length-append, length-map}
-use Rattle.std.proofs.lemmas.List.Elements.{All-set, All-nil, All-head, All-tail, All-replicate}
+use Rattle.std.proofs.lemmas.List.Elements.{All-set, All-head, All-tail}
 use Rattle.nego_base.proofs.ListLaws.{map-replicate}
 use Rattle.nego_eval.specs.Kept.{numbered_row, rows_by_place, AreNumbered, open_places}
 use Rattle.nego_eval.proofs.Counts.{count_by-set_fewer}

@@ -165,7 +165,10 @@ impl Frame {
         ensures fewer { OnOk result (lacked self.new.followed < lacked self.old.followed) }
         ensures wanted { IfErr result (λ wanted. IsWanted rows.now self.old.pair wanted) }
     {
-        let row = rows.find(Pair { node: child, start: y })?;
+        let row = rows.find(Pair {
+            node: child,
+            start: y,
+        })?;
         self.met.add(row);
         self.followed.insert(y);
         Ok(())

@@ -1,12 +1,11 @@
 //! Evaluation of a summary: the joint data that its final outcomes relate to a start.
 #![tactic(auto)]
 
-
+mod answers;
 mod frame;
 mod kept;
 mod making;
-
 mod row;
 mod rows;
 
-
+pub use answers::{Answers, ask, holds};

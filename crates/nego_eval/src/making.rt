@@ -1,5 +1,6 @@
 //! The making of rows: what is still to be made stands on a list of its own.
-ghost use Rattle.std.specs.Prelude.{◌≡◌, ◌<◌, OnOk, IsSome};
+ghost use Rattle.std.specs.Prelude.{◌≡◌, ◌<◌, length, All, IfOk, OnOk, IsSome, ⊤};
+ghost use Rattle.nego_model.specs.Expression.{IsNodeList, NodeBases};
 ghost use Rattle.nego_eval.specs.Kept.{open_places};
 ghost use Rattle.nego_eval.specs.Frames.{AreAlike, IsPair, IsFrame, kept_row};
 ghost use Rattle.nego_eval.specs.Making.{AreMaking};
@@ -7,6 +8,9 @@ ghost use Rattle.nego_eval.specs.Making.{AreMaking};
 use crate::frame::Frame;
 use crate::rows::{Pair, Rows};
 use nego_base::{Memory, Seq};
+use nego_expr::Nodes;
+use nego_model::Diagram;
+use std::alloc::Global;
 
 /// Rows that are kept, and rows in the making that wait for others.
 #[derive(Debug, Drop)]
@@ -16,6 +20,23 @@ pub(crate) struct Making<'a> {
 }
 
 impl<'a> Making<'a> {
+    /// No row yet.
+    pub(crate) fn new(
+        alloc: Global,
+        diagram: &'a Diagram,
+        nodes: &'a Nodes,
+    ) -> Result<Making<'a>, Memory>
+        requires below { IsNodeList nodes.now.nodes }
+        requires bases { All (NodeBases (λ o. o < length diagram.now.outcomes) (λ i. ⊤)) nodes.now.nodes }
+        ensures making { IfOk result AreMaking }
+        ensures diagram { IfOk result (λ making. making.rows.diagram.now ≡ diagram.now) }
+        ensures nodes { IfOk result (λ making. making.rows.nodes.now ≡ nodes.now) }
+    {
+        let rows = Rows::new(alloc, diagram, nodes)?;
+        let waiting = Seq::new(alloc);
+        Ok(Making { rows, waiting })
+    }
+
     /// Makes rows until that of the pair is kept.
     pub(crate) fn make(&mut self, pair: Pair) -> Result<(), Memory>
         requires making { AreMaking self.old }
@@ -63,7 +84,11 @@ impl<'a> Making<'a> {
             self.waiting.push(frame)?;
             frame = Frame::new(wanted);
         }
-        let Frame { pair, met, followed: _ } = frame;
+        let Frame {
+            pair,
+            met,
+            followed: _,
+        } = frame;
         self.rows.keep(pair, met)
     }
 }

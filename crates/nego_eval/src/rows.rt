@@ -33,7 +33,11 @@ pub(crate) struct Rows<'a> {
 
 impl<'a> Rows<'a> {
     /// No row yet.
-    pub(crate) fn new(alloc: Global, diagram: &'a Diagram, nodes: &'a Nodes) -> Result<Rows<'a>, Memory>
+    pub(crate) fn new(
+        alloc: Global,
+        diagram: &'a Diagram,
+        nodes: &'a Nodes,
+    ) -> Result<Rows<'a>, Memory>
         requires below { IsNodeList nodes.now.nodes }
         requires bases { All (NodeBases (λ o. o < length diagram.now.outcomes) (λ i. ⊤)) nodes.now.nodes }
         ensures rows { IfOk result AreRows }
@@ -42,7 +46,12 @@ impl<'a> Rows<'a> {
     {
         let joint = diagram.sizes().all();
         let kept = KeptRows::none(alloc, nodes.len() as usize * joint as usize)?;
-        Ok(Rows { diagram, nodes, joint, kept })
+        Ok(Rows {
+            diagram,
+            nodes,
+            joint,
+            kept,
+        })
     }
 
     /// The place of a pair.

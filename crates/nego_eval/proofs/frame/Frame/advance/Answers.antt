@@ -1,6 +1,6 @@
 use Rattle.std.proofs.Common.{sym, ◌∙◌, arith, rules}
 use Rattle.nego_model.specs.Joining.{By}
-use Rattle.nego_model.specs.Expression.{Base, Join, Then, Star}
+use Rattle.nego_model.specs.Expression.{Join, Then, Star}
 use Rattle.nego_model.specs.Diagram.{relation_of}
 use Rattle.nego_eval.proofs.Made.{base_made}
 use Rattle.nego_eval.proofs.frame.Frame.advance.Goals as goal

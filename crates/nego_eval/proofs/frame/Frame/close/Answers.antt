@@ -1,4 +1,4 @@
-use Rattle.std.proofs.Common.{◌||◌, ◌==◌, ◌∙◌, refl, sym, subst, eq-eqb}
+use Rattle.std.proofs.Common.{◌==◌, ◌∙◌, refl, subst, eq-eqb}
 use Rattle.std.proofs.lemmas.Bool.{or_left}
 use Rattle.nego_base.specs.Members.{is_in}
 use Rattle.nego_model.specs.Joining.{By}
@@ -27,4 +27,4 @@ returns-clause-row c =
     let P : Pair → Type 0 = λ p. IsRowOf (meaning rows p.node.0) rows.joint p.start row.met in
     subst P c.loop-y.invariant.pair
     (star_made (By (relation_of rows.diagram.now)) rows.nodes.now.nodes c.requires.rows.nodes row.pair.node.0 c.args.child.0 (rw c.loop-y.invariant.pair c.requires.node) rows.joint row.pair.start row.met row.followed
-     c.loop-y.invariant.going c.loop-y.invariant.start c.in_default.ensures.none)
+    c.loop-y.invariant.going c.loop-y.invariant.start c.in_default.ensures.none)

@@ -14,7 +14,7 @@ follow-requires-clause-sound c = λ e w.
     let P : Pair → Type 0 = λ p. meaning rows p.node.0 p.start e in
     subst P (sym c.loop-y.invariant.pair)
     (then_step (By (relation_of rows.diagram.now)) rows.nodes.now.nodes c.requires.rows.nodes pair.node.0 c.args.first.0 c.args.second.0 pair.start c.in-Some.y e c.requires.node
-     ((c.in_ok-middle.ensures.row.exact c.in-Some.y).0 c.in-Some.ensures.none) w)
+    ((c.in_ok-middle.ensures.row.exact c.in-Some.y).0 c.in-Some.ensures.none) w)
 
 pub returns-clause-row : goal.returns-clause-row
 returns-clause-row c =

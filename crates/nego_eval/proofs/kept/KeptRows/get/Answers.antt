@@ -1,4 +1,4 @@
-use Rattle.std.proofs.Common.{◌≡◌, ◌<◌, ◌-◌, length, None, slice_index_or, slice_get, sym, subst, ap, ◌∙◌, arith}
+use Rattle.std.proofs.Common.{◌≡◌, ◌<◌, length, None, slice_index_or, sym, ap, ◌∙◌, arith}
 use Rattle.std.proofs.lemmas.List.{get_or_default}
 use Rattle.nego_eval.specs.Kept.{numbered_row}
 use Rattle.nego_eval.proofs.Places.{length-by_place, row_at_place, numbered_some}

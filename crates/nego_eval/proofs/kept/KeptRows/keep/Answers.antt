@@ -1,6 +1,6 @@
-use Rattle.std.proofs.Common.{◌≡◌, ◌+◌, ◌<◌, [], ◌∷◌, length, None, Some, set, slice_index_or, sym, subst, ap, ap₂, ◌∙◌, arith}
+use Rattle.std.proofs.Common.{◌≡◌, ◌+◌, ◌<◌, [], ◌∷◌, length, None, Some, set, slice_index_or, sym, ap, ap₂, ◌∙◌, arith}
 use Rattle.std.proofs.lemmas.List.{length-append}
-use Rattle.nego_eval.specs.Kept.{AreNumbered, rows_by_place}
+use Rattle.nego_eval.specs.Kept.{rows_by_place}
 use Rattle.nego_eval.proofs.Places.{length-by_place, vacant_number, room_for_number, still_numbered, kept_by_place}
 use Rattle.nego_eval.proofs.kept.KeptRows.keep.Goals as goal
 

@@ -1,4 +1,4 @@
-use Rattle.std.proofs.Common.{◌≡◌, ap₂, ◌∙◌, rules}
+use Rattle.std.proofs.Common.{ap₂, ◌∙◌, rules}
 use Rattle.nego_eval.specs.Kept.{rows_by_place}
 use Rattle.nego_eval.proofs.Places.{none_by_place}
 use Rattle.nego_eval.proofs.kept.KeptRows.none.Goals as goal

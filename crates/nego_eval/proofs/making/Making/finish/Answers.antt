@@ -1,4 +1,3 @@
-use Rattle.std.proofs.Common.{◌∙◌}
 use Rattle.nego_base.proofs.OptionLaws.{then_ok}
 use Rattle.nego_eval.specs.Frames.{AreRows}
 use Rattle.nego_eval.specs.Making.{AreMaking}
