@@ -19,7 +19,7 @@ use std::alloc::Global;
 pub type Answers = Seq<(u32, u16)>;
 
 /// The final outcomes, by their places, and the joint data to which the start is related by their nodes, in rising
-/// order. Joint data to which no final outcome leads from the start take no time.
+/// order. Only rows that are needed are made, each once.
 pub fn ask(alloc: Global, d: &Diagram, s: &Summary, start: u16) -> Result<Answers, Memory>
     requires over { IsOver (length d.now.outcomes) (plain_summary s.now) }
     requires few { length s.now.finals < 2 ^ 32 }
