@@ -7,5 +7,7 @@ mod kept;
 mod making;
 mod row;
 mod rows;
+#[cfg(test)]
+mod tests;
 
 pub use answers::{Answers, ask, holds};
