@@ -129,8 +129,8 @@ pub final_at : (finals : List Final) (place : ℕ) (outcome : Final) → place <
 final_at finals place outcome h is = mapped_at plain_final finals place outcome (slice_get-get_or finals place outcome h ∙ ap Some (sym is))
 
 -- the node of a final outcome is there
-pub final_node : (summary : PlainSummary) (place : ℕ) (outcome : PlainFinal) → IsFormed summary → slice_get summary.finals place ≡ Some outcome → outcome.node < length summary.nodes
-final_node summary place outcome formed here =
+pub final_node : (outcomes : ℕ) (summary : PlainSummary) (place : ℕ) (outcome : PlainFinal) → IsFormed outcomes summary → slice_get summary.finals place ≡ Some outcome → outcome.node < length summary.nodes
+final_node outcomes summary place outcome formed here =
     subst (λ o. o.node < length summary.nodes) (get_or_from_slice_get summary.finals place outcome outcome here) (formed.there place outcome (slice_get_within summary.finals place outcome here))
 
 -- the pair of a final outcome's node and a start is one of the rows

@@ -4,7 +4,7 @@ use Rattle.std.proofs.lemmas.Bool.{or_cases, or_left, or_right, eqb-true}
 use Rattle.nego_base.specs.Members.{is_in}
 use Rattle.nego_model.specs.Joining.{Relation}
 use Rattle.nego_model.specs.Expression.{PlainNode, Base, Join, Then, Star, IsNodeList, IsPath, NodeMeans, Means}
-use Rattle.nego_model.proofs.Expressions.{Means-at, IsPath_one, IsPath_through}
+use Rattle.nego_model.proofs.expressions.Nodes.{Means-at, IsPath_one, IsPath_through}
 use Rattle.nego_eval.specs.Begun.{IsRowOf, IsBegun}
 
 module _ (base : Relation) (nodes : List PlainNode) (formed : IsNodeList nodes) where

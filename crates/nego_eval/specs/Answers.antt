@@ -1,13 +1,8 @@
 -- What a summary answers on a diagram: to which joint data its final outcomes relate a start.
-use Rattle.std.specs.Prelude.{◌≡◌, ◌↔◌, ◌⊎◌, ℕ, ◌<◌, List, slice_get, All, AllPairs, Contains, MatchOption, ⊤}
+use Rattle.std.specs.Prelude.{◌≡◌, ◌↔◌, ◌⊎◌, ℕ, ◌<◌, List, slice_get, All, AllPairs, Contains, MatchOption}
 use Rattle.nego_model.specs.Joining.{RelationTest, By}
-use Rattle.nego_model.specs.Expression.{Means, NodeBases}
-use Rattle.nego_model.specs.Summary.{PlainSummary, IsFormed}
-
--- The summary is formed, and each outcome among its nodes is below the count of outcomes.
-pub record IsOver (outcomes : ℕ) (summary : PlainSummary) : Type 0 where
-  pub formed : IsFormed summary
-  pub bases : All (NodeBases (λ o. o < outcomes) (λ i. ⊤)) summary.nodes
+use Rattle.nego_model.specs.Expression.{Means}
+use Rattle.nego_model.specs.Summary.{PlainSummary}
 
 -- There is a final outcome at the place, and its node relates the start to e.
 abbrev pub IsAnswer : RelationTest → PlainSummary → ℕ → ℕ → ℕ → Type 0

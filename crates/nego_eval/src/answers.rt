@@ -4,8 +4,9 @@ ghost use Rattle.std.specs.List.{filter, range_with_len};
 ghost use Rattle.nego_base.specs.Members.{is_in};
 ghost use Rattle.nego_data.specs.Data.{data_count};
 ghost use Rattle.nego_model.specs.Diagram.{relation_of};
+ghost use Rattle.nego_model.specs.Summary.{IsFormed};
 ghost use Rattle.nego_expr.specs.SummaryText.{plain_summary};
-ghost use Rattle.nego_eval.specs.Answers.{IsOver, IsAnswer, AreAnswers};
+ghost use Rattle.nego_eval.specs.Answers.{IsAnswer, AreAnswers};
 
 use crate::making::Making;
 use crate::row::Row;
@@ -21,7 +22,7 @@ pub type Answers = Seq<(u32, u16)>;
 /// The final outcomes, by their places, and the joint data to which the start is related by their nodes, in rising
 /// order. Only rows that are needed are made, each once.
 pub fn ask(alloc: Global, d: &Diagram, s: &Summary, start: u16) -> Result<Answers, Memory>
-    requires over { IsOver (length d.now.outcomes) (plain_summary s.now) }
+    requires formed { IsFormed (length d.now.outcomes) (plain_summary s.now) }
     requires few { length s.now.finals < 2 ^ 32 }
     requires start { start < data_count d.now.sizes }
     ensures { IfOk result (λ answers. AreAnswers (relation_of d.now) (plain_summary s.now) start answers) }
@@ -66,7 +67,7 @@ pub fn holds(
     start: u16,
     end: u16,
 ) -> Result<bool, Memory>
-    requires over { IsOver (length d.now.outcomes) (plain_summary s.now) }
+    requires formed { IsFormed (length d.now.outcomes) (plain_summary s.now) }
     requires place { place < length s.now.finals }
     requires start { start < data_count d.now.sizes }
     requires end { end < data_count d.now.sizes }

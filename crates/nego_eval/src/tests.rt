@@ -1,9 +1,9 @@
 //! Answers of summaries that are built node by node.
 ghost use Rattle.std.specs.Prelude.{◌≡◌, ◌<◌, ℕ, length, All, IsTrue, IfOk, ⊤};
 ghost use Rattle.nego_model.specs.Expression.{IsNodeList, NodeBases, children};
+ghost use Rattle.nego_model.specs.Summary.{IsFormed};
 ghost use Rattle.nego_expr.specs.Plain.{plain_node};
 ghost use Rattle.nego_expr.specs.SummaryText.{plain_summary};
-ghost use Rattle.nego_eval.specs.Answers.{IsOver};
 
 use crate::{ask, holds};
 use nego_base::{NodeId, OutcomeId, Seq, Text};
@@ -92,7 +92,7 @@ fn summary(
     last: u32,
     outcomes: u32,
 ) -> Result<Summary, Fail>
-    ensures over { IfOk result (λ s. IsOver outcomes (plain_summary s)) }
+    ensures formed { IfOk result (λ s. IsFormed outcomes (plain_summary s)) }
     ensures one { IfOk result (λ s. length s.finals ≡ 1) }
 {
     let nodes = nodes_of(rt, alloc, list, outcomes)?;
@@ -111,7 +111,7 @@ fn summary_of(nodes: Nodes, finals: Seq<Final>, outcomes: u32) -> Summary
     requires below { IsNodeList nodes.nodes }
     requires bases { All (NodeBases (λ o. o < outcomes) (λ i. ⊤)) nodes.nodes }
     requires finals { All (λ outcome. outcome.node.0 < length nodes.nodes) finals }
-    ensures over { IsOver outcomes (plain_summary result) }
+    ensures formed { IsFormed outcomes (plain_summary result) }
     ensures finals { result.finals ≡ finals }
 {
     Summary { nodes, finals }

@@ -13,7 +13,7 @@ make-requires-clause-there c =
     let here = subst (λ finals. slice_get (map plain_final finals) c.loop-place.place ≡ Some (plain_final outcome)) c.as_slice-outcome-items.ensures
     (final_at c.as_slice-outcome-items.result.now c.loop-place.place outcome c.loop-place-test.true c.outcome-item.is) in
     final_pair c.args.d.now summary c.loop-place.making.rows outcome.node c.args.start c.loop-place.invariant.making.rows c.loop-place.invariant.diagram c.loop-place.invariant.nodes
-    (final_node summary c.loop-place.place (plain_final outcome) c.requires.over.formed here) c.requires.start
+    (final_node _ summary c.loop-place.place (plain_final outcome) c.requires.formed here) c.requires.start
 
 pub loop-place-preserved : goal.loop-place-preserved
 loop-place-preserved c =

@@ -11,7 +11,7 @@ make-requires-clause-there c =
     let outcome = c.index.result.now in
     let here = mapped_at plain_final c.args.s.now.finals c.args.place outcome c.index.ensures in
     final_pair c.args.d.now summary c.in_ok-making.making.rows outcome.node c.args.start c.in_ok-making.ensures.making.rows c.in_ok-making.ensures.diagram (ap (λ n. n.nodes) c.in_ok-making.ensures.nodes)
-    (final_node summary c.args.place (plain_final outcome) c.requires.over.formed here) c.requires.start
+    (final_node _ summary c.args.place (plain_final outcome) c.requires.formed here) c.requires.start
 
 pub returns : goal.returns
 returns c =
