@@ -56,6 +56,10 @@ IsNextUse work (Iterate o) = HasNoMerge work × IsLeastIteration work o
 IsNextUse work (Shortcut o n) = HasNoMerge work × HasNoIteration work × IsLeastShortcut work o n
 IsNextUse work Close = HasNoMerge work × HasNoIteration work × HasNoShortcut work × IsTrue (allows work Close)
 
+-- A work has at most one next use.
+abbrev pub NextUsesAreOne : Type 0
+NextUsesAreOne = (work : PlainWork) (one two : PlainUse) → IsNextUse work one → IsNextUse work two → one ≡ two
+
 -- No use is the next one.
 abbrev pub HasNoNextUse : PlainWork → Type 0
 HasNoNextUse work = (next : PlainUse) → IsNextUse work next → ⊥

@@ -13,6 +13,7 @@ mod load;
 mod names;
 mod narrow;
 mod order;
+mod order_laws;
 mod reduce;
 mod refusal_text;
 mod shape_text;
@@ -23,6 +24,7 @@ mod word_laws;
 mod words;
 
 pub use command::{Command, WordsAnswer};
+pub use order_laws::next_uses_are_one;
 pub use status::Status;
 pub use top::nego;
 pub use word_laws::number_words_are_decimals;

@@ -183,7 +183,7 @@ then_each_work work x n ok there within =
 -- An atom other than the last, to which no outcome of another leads, is gone with its outcomes; this one is the first
 -- now, of which everyone is a party.
 module _ (work : PlainWork) (n first : ℕ) (ok : IsWork work) (not_last : n ≢ work.last) (other_first : first ≢ n) (first_there : IsTrue (is_in first (map (λ atom. atom.number) work.atoms)))
-  (all_begin : (a : ℕ) → a < work.agents → IsTrue (is_in a (work_parties work first))) (unled : All (λ z. z.atom ≢ n → (a : ℕ) → sent_to z a ≢ Some n) work.outcomes) where
+    (all_begin : (a : ℕ) → a < work.agents → IsTrue (is_in a (work_parties work first))) (unled : All (λ z. z.atom ≢ n → (a : ℕ) → sent_to z a ≢ Some n) work.outcomes) where
   abbrev left_work : PlainWork
   left_work = record (without_atom n work) { first = first }
 

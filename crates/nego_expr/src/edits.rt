@@ -38,9 +38,9 @@ impl Work {
         requires there { node.0 < length self.old.plain.nodes }
         ensures number { result.0 ≡ self.old.plain.numbers }
         ensures plain { self.new.plain ≡ record self.old.plain {
-            numbers = self.old.plain.numbers + 1;
-            outcomes = self.old.plain.outcomes
-                ++ record { number = self.old.plain.numbers; atom = n.0; targets = targets; node = node.0; passed = passed } ∷ [];
+          numbers = self.old.plain.numbers + 1;
+          outcomes = self.old.plain.outcomes
+              ++ record { number = self.old.plain.numbers; atom = n.0; targets = targets; node = node.0; passed = passed } ∷ [];
         } }
         ensures spare { self.new.spare_outcomes ≡ self.old.spare_outcomes - 1 }
         ensures kept { self.old.spare_nodes ≤ self.new.spare_nodes }
@@ -63,7 +63,7 @@ impl Work {
         requires fit { length targets ≡ self.old.plain.agents }
         requires there { node.0 < length self.old.plain.nodes }
         ensures plain { Some self.new.plain ≡ option_map (λ x. record self.old.plain {
-            outcomes = with_outcome (record x { targets = targets; node = node.0; passed = passed }) self.old.plain.outcomes;
+          outcomes = with_outcome (record x { targets = targets; node = node.0; passed = passed }) self.old.plain.outcomes;
         }) (outcome_at self.old.plain o.0) }
         ensures kept { (self.old.spare_nodes ≤ self.new.spare_nodes) × (self.old.spare_outcomes ≤ self.new.spare_outcomes) }
     {

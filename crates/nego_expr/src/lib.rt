@@ -18,7 +18,8 @@ mod uses;
 mod work;
 
 pub use laws::{
-    finished_works_tell, fresh_works_stand, one_atom_works_are_sound, uses_that_lead, works_are_local,
+    finished_works_tell, fresh_works_stand, one_atom_works_are_sound, uses_that_lead,
+    works_are_local,
 };
 pub use node::{Node, Nodes};
 pub use outcome::Outcome;

@@ -58,7 +58,8 @@ impl Outcome {
         ensures { result ≡ send_alike agents (plain_outcome self.now) (plain_outcome other.now) }
     {
         match agents.least() {
-            Some(a) => self.target(a) == other.target(a) && self.sends_alike(other, agents.without(a)),
+            Some(a) => self.target(a) == other.target(a)
+                && self.sends_alike(other, agents.without(a)),
             None => true,
         }
     }

@@ -1,6 +1,5 @@
 //! Where an outcome sends the agents.
 ghost use Rattle.std.specs.Prelude.{◌≡◌, ◌<◌, ◌≤◌, Some, None, replicate, length, slice_get, slice_index_or, slice_set, option_map};
-
 ghost use Rattle.std.specs.List.{list_any};
 ghost use Rattle.nego_expr.specs.Use.{same_target};
 

@@ -9,7 +9,7 @@ use Rattle.nego_expr.specs.Use.{merged}
 use Rattle.nego_expr.proofs.WorkEdits.{found-without_other}
 
 module _ (work : PlainWork) (x y : WorkOutcome) (first : outcome_at work x.number ≡ Some x) (apart : x.number ≢ y.number) (added dropped : PlainWork)
-  (adds : added ≡ record work { nodes = work.nodes ++ Join x.node y.node ∷ [] }) (drops : dropped ≡ record added { outcomes = without_outcome y.number added.outcomes }) where
+    (adds : added ≡ record work { nodes = work.nodes ++ Join x.node y.node ∷ [] }) (drops : dropped ≡ record added { outcomes = without_outcome y.number added.outcomes }) where
   abbrev drop_second : PlainWork → PlainWork
   drop_second w = record w { outcomes = without_outcome y.number w.outcomes }
 

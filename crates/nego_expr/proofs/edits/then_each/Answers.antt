@@ -78,4 +78,3 @@ loop-i-preserved c =
           let other = other_done (x b) (n b) (nodes' b) (outcomes' b) c.loop-i.i (nodes b) (outcomes b) c.loop-i.nodes.room h k.0 k.1 (eqb-false k.0.atom (n b) (tested b ∙ w.if-is_at.false)) in
           rw (w.nodes-is, w.outcomes-is) (record { up_to = other; as_many = as_many; room = c.loop-i.invariant.room })
     ]
-

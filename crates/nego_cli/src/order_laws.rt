@@ -1,0 +1,8 @@
+//! Laws of the order of uses. Each function does nothing; its clause is the law.
+
+ghost use Rattle.nego_cli.specs.Order.{NextUsesAreOne};
+
+/// A work has at most one next use, so that the uses of the order are determined.
+pub fn next_uses_are_one()
+    ensures { NextUsesAreOne }
+{}
