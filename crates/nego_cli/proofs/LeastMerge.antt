@@ -1,7 +1,6 @@
 -- The search of the least merge.
 use Rattle.std.proofs.Common.{◌≡◌, ⊎_elim, ℕ, zero, suc, ◌+◌, ◌<◌, ◌≤◌, false, List, [], ◌∷◌, length, map, option_map, slice_get, slice_index_or, Some, IsTrue, refl, sym, subst, ap, ◌∙◌, arith}
 use Rattle.std.proofs.lemmas.Bool.{cases_lt, false_from_ne_true, true≢false}
-use Rattle.std.proofs.lemmas.List.{length-map}
 use Rattle.std.proofs.lemmas.Option.{none-some, same_Some, slice_get_within, slice_get-map, slice_get_read}
 use Rattle.nego_base.specs.Members.{RisesFrom}
 use Rattle.nego_expr.specs.Work.{WorkOutcome, PlainWork, outcome_among, IsWork}

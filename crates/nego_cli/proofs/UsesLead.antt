@@ -1,5 +1,5 @@
 -- What uses that are each the next one in its turn keep.
-use Rattle.std.proofs.Common.{◌≡◌, List, sym, subst}
+use Rattle.std.proofs.Common.{List, sym, subst}
 use Rattle.nego_model.specs.Diagram.{PlainDiagram, IsDiagram}
 use Rattle.nego_model.specs.Summary.{PlainSummary, Tells}
 use Rattle.nego_expr.specs.Work.{PlainWork}
@@ -13,7 +13,7 @@ use Rattle.nego_merge.proofs.MergeKeeps.{merging}
 use Rattle.nego_iterate.proofs.IterateKeeps.{iterating}
 use Rattle.nego_shortcut.proofs.CloseKeeps.{closing}
 use Rattle.nego_shortcut.proofs.ShortcutKeeps.{shortcuts_keep}
-use Rattle.nego_cli.specs.Order.{IsNextUse, Reduces, takes_shortcut}
+use Rattle.nego_cli.specs.Order.{IsNextUse, Reduces}
 use Rattle.nego_cli.proofs.NextUses.{next_allowed}
 
 -- each rule keeps what a work is

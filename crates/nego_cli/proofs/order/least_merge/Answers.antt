@@ -1,4 +1,4 @@
-use Rattle.std.proofs.Common.{◌≡◌, ◌≤◌, length, slice_get, Some, sym, ap, ◌∙◌, arith}
+use Rattle.std.proofs.Common.{◌≡◌, ◌≤◌, length, slice_get, Some, ap, arith}
 use Rattle.std.proofs.lemmas.List.{length-map}
 use Rattle.nego_expr.specs.WorkView.{plain_outcome}
 use Rattle.nego_cli.proofs.LeastMerge.{least_from, no_lesser_first, no_first_more, no_first, item_at}
