@@ -2,6 +2,7 @@
 #![tactic(auto)]
 
 mod calls;
+mod disks;
 mod failed;
 mod front;
 mod laws;
@@ -13,6 +14,7 @@ mod put;
 mod sink;
 mod source;
 
+pub use disks::Disks;
 pub use failed::Failed;
 pub use laws::{
     ends_of_lines, lines_of_a_text, parts_of_an_input, taken_of_an_input, texts_that_are_parts,
