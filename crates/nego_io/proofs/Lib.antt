@@ -1,4 +1,5 @@
 pub mod BehindLaws
+pub mod DiskLaws
 pub mod EndLaws
 pub mod FoundLaws
 pub mod FrontLaws

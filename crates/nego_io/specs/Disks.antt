@@ -1,5 +1,5 @@
 -- Disks that may be stopped at any moment: what is told of them, and what a call on one of them changes.
-use Rattle.std.specs.Prelude.{◌≡◌, ◌≢◌, ℕ, ◌+◌, ◌<◌, ◌≤◌, Bool, IsTrue, ◌⊎◌, ◌↔◌, List, ◌++◌, length, take, drop, min, max, slice_get}
+use Rattle.std.specs.Prelude.{◌≡◌, ◌≢◌, ℕ, ◌+◌, ◌<◌, ◌≤◌, Bool, IsTrue, ◌⊎◌, ◌↔◌, List, ◌++◌, length, take, drop, min, max, slice_index}
 
 -- What is told of the disks of a program. Where they aren't telling, only their number and the counts of faults mean
 -- anything.
@@ -66,7 +66,7 @@ overwritten at piece content = take at content ++ (piece ++ drop (at + length pi
 -- What a write of so many bytes at a place may leave before a sync: each byte outside the range stays, and the length
 -- is at least what it was, and at most that or the end of the range.
 pub record Torn (at count : ℕ) (before image : List ℕ) : Type 0 where
-  pub stays : (k : ℕ) → k < length before → (k < at) ⊎ (at + count ≤ k) → slice_get image k ≡ slice_get before k
+  pub stays : (k : ℕ) → k < length before → (k < at) ⊎ (at + count ≤ k) → slice_index image k ≡ slice_index before k
   pub no_shorter : length before ≤ length image
   pub no_longer : length image ≤ max (length before) (at + count)
 

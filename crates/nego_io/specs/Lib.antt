@@ -2,6 +2,8 @@ pub mod Answer
 pub mod Calls
 pub mod Disks
 pub mod Front
+pub mod ImageLaws
 pub mod Laws
+pub mod MemDisks
 pub mod Outside
 pub mod Part

@@ -2,11 +2,14 @@
 #![tactic(auto)]
 
 mod calls;
+mod change;
+mod disk_calls;
 mod disks;
 mod failed;
 mod front;
 mod laws;
 mod lines;
+mod mem_disks;
 mod mem_sink;
 mod mem_source;
 mod part;
@@ -20,6 +23,7 @@ pub use laws::{
     ends_of_lines, lines_of_a_text, parts_of_an_input, taken_of_an_input, texts_that_are_parts,
     words_of_a_text,
 };
+pub use mem_disks::MemDisks;
 pub use mem_sink::MemSink;
 pub use mem_source::MemSource;
 pub use part::{Part, ReadAnswer, read_part};
