@@ -7,3 +7,4 @@ pub mod OutsideLaws
 pub mod PartLaws
 pub mod ReadLaws
 pub mod ReadingLaws
+pub mod ReplayLaws

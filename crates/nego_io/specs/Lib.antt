@@ -7,3 +7,4 @@ pub mod Laws
 pub mod MemDisks
 pub mod Outside
 pub mod Part
+pub mod Replay

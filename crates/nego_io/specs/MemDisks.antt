@@ -42,6 +42,14 @@ after_step disk None = record { synced = content_after disk.pending disk.synced;
 abbrev pub after_change : ℕ → DiskState → Change → DiskState
 after_change i disk change = if change.disk == i then after_step disk change.step else disk
 
+-- a disk with its first content, and nothing pending
+abbrev pub at_first : List ℕ → DiskState
+at_first first = record { synced = first; pending = [] }
+
+-- disk i, with this first content, after these changes
+abbrev pub disk_after : ℕ → List ℕ → List Change → DiskState
+disk_after i first changes = fold (after_change i) (at_first first) changes
+
 -- All disks: what they had at first, the changes since in their order, and the record of the calls.
 pub record MemDisksState : Type 0 where
   pub first : List (List ℕ)
@@ -50,7 +58,7 @@ pub record MemDisksState : Type 0 where
 
 -- disk i after the first t changes
 abbrev pub disk_at : MemDisksState → ℕ → ℕ → DiskState
-disk_at s t i = fold (after_change i) (record { synced = slice_index_or s.first i []; pending = [] }) (take t s.changes)
+disk_at s t i = disk_after i (slice_index_or s.first i []) (take t s.changes)
 
 -- disk i now
 abbrev pub disk_now : MemDisksState → ℕ → DiskState

@@ -14,6 +14,7 @@ mod mem_sink;
 mod mem_source;
 mod part;
 mod put;
+mod replay;
 mod sink;
 mod source;
 

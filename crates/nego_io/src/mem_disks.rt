@@ -7,6 +7,7 @@ ghost use Rattle.nego_io.specs.declared.change.Step.TheVariants as steps;
 
 use crate::change::{Change, Step};
 use crate::disk_calls::DiskCalls;
+use crate::replay::{replayed, spliced};
 use crate::{Disks, Failed};
 use nego_base::{Memory, Seq, Text};
 use std::alloc::Global;
@@ -59,6 +60,17 @@ impl MemDisks {
             contents,
             calls,
         })
+    }
+
+    /// The image of a disk in which every byte written since its last sync is the filler.
+    pub fn remains(&self, alloc: Global, i: u32, filler: u8) -> Result<Seq<u8>, Memory>
+        requires { i < length self.now.first }
+        ensures filled { IfOk result (λ image. image ≡ filled filler (disk_now self.now i).pending (disk_now self.now i).synced) }
+        ensures left { IfOk result (λ image. LeavesNow (told_of self.now) i image) }
+    {
+        let first = self.first[i as usize].as_slice();
+        let replay = replayed(alloc, first, self.changes.as_slice(), i, filler)?;
+        Ok(replay.image)
     }
 
     /// How many calls failed since they found no memory. The count stays at its last value.
@@ -115,17 +127,6 @@ impl MemDisks {
         self.changes.push(change)?;
         Ok(())
     }
-}
-
-/// The content with a piece written over it, from a place on.
-fn spliced(alloc: Global, content: &[u8], at: usize, piece: &[u8]) -> Result<Text, Memory>
-    ensures { IfOk result (λ text. text ≡ overwritten at piece.now content.now) }
-{
-    let mut text = Text::copy(alloc, &content[..content.len().min(at)])?;
-    text.extend_from_slice(piece)?;
-    let end = at.saturating_add(piece.len());
-    text.extend_from_slice(&content[content.len().min(end)..])?;
-    Ok(text)
 }
 
 impl Disks for MemDisks {
