@@ -1,5 +1,6 @@
 -- Records of a journal in plain numbers, and what a leader tells of one.
-use Rattle.std.specs.Prelude.{ℕ, ◌==◌, if◌then◌else◌, List, map, find, slice_index, Option, None, option_map}
+use Rattle.std.specs.Prelude.{◌≡◌, ℕ, ◌==◌, false, if◌then◌else◌, List, map, find, slice_index, Option, None, option_map}
+use Rattle.nego_base.specs.Members.{is_in}
 use Rattle.agent_msg.specs.Messages.{DecideMessage}
 use Rattle.agent_msg.specs.declared.record.Record.{Record}
 use Rattle.agent_msg.specs.declared.record.Record.TheVariants.{Move, Decision}
@@ -33,3 +34,17 @@ abbrev pub decide_of : ℕ → ℕ → Entry → Option DecideMessage
 decide_of from to (Moved atom outcome after) = None
 decide_of from to (Decided atom outcome shares) =
     if to == from then None else option_map (told from atom outcome) (find (λ s. s.agent == to) shares)
+
+-- the entries of records
+abbrev pub entries : List Record → List Entry
+entries records = map entry records
+
+-- A decision's tables are 0 for the agents that are no parties.
+pub record ZeroElsewhere (parties visits afters : List ℕ) : Type 0 where
+  pub visits_zero : (a : ℕ) → is_in a parties ≡ false → slice_index visits a ≡ 0
+  pub afters_zero : (a : ℕ) → is_in a parties ≡ false → slice_index afters a ≡ 0
+
+-- Nothing stands in a record beside what its entry says.
+abbrev pub IsTidy : Record → Type 0
+IsTidy (Move atom outcome after) = Unit {0}
+IsTidy (Decision atom outcome parties visits afters) = ZeroElsewhere parties visits afters
