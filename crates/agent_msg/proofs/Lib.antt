@@ -1,1 +1,3 @@
 pub mod PartyLaws
+pub mod ReadingLaws
+pub mod ShareLaws

@@ -49,11 +49,15 @@ pub record SpellsMessage (bytes : List ℕ) (m : Message) : Type 0 where
 abbrev pub share_bytes : Share → List ℕ
 share_bytes s = low_byte s.agent ∷ (two_bytes s.visit ++ low_byte s.after ∷ [])
 
+-- what stands in a decision behind its first five bytes: how many parties there are, their shares, and zeros
+abbrev pub tail_bytes : List Share → List ℕ
+tail_bytes shares = low_byte (length shares) ∷ (flat_map share_bytes shares ++ replicate (121 - 4 * length shares) 0)
+
 -- the 127 bytes of a record
 abbrev pub entry_bytes : Entry → List ℕ
 entry_bytes (Moved atom outcome after) = 1 ∷ (two_bytes atom ++ (two_bytes outcome ++ low_byte after ∷ replicate 121 0))
 entry_bytes (Decided atom outcome shares) =
-    2 ∷ (two_bytes atom ++ (two_bytes outcome ++ low_byte (length shares) ∷ (flat_map share_bytes shares ++ replicate (121 - 4 * length shares) 0)))
+    2 ∷ (two_bytes atom ++ (two_bytes outcome ++ tail_bytes shares))
 
 -- A share's numbers are within their bounds.
 pub record ShareFits (s : Share) : Type 0 where
@@ -66,13 +70,17 @@ pub record MoveFits (atom outcome after : ℕ) : Type 0 where
   pub outcome_fits : outcome < 256
   pub after_fits : after < 64
 
--- A decision has some party; its parties rise, and all its numbers are within their bounds.
+-- The parties of shares rise, and all their numbers are within their bounds.
+pub record SharesFit (shares : List Share) : Type 0 where
+  pub parties : IsRisingBelow 16 (map (λ s. s.agent) shares)
+  pub each : All ShareFits shares
+
+-- A decision has some party, and all its numbers are within their bounds.
 pub record DecisionFits (atom outcome : ℕ) (shares : List Share) : Type 0 where
   pub atom_fits : atom < 64
   pub outcome_fits : outcome < 256
   pub some : shares ≢ []
-  pub parties : IsRisingBelow 16 (map (λ s. s.agent) shares)
-  pub each : All ShareFits shares
+  pub shares_fit : SharesFit shares
 
 abbrev pub EntryFits : Entry → Type 0
 EntryFits (Moved atom outcome after) = MoveFits atom outcome after

@@ -1,3 +1,4 @@
 pub mod Bytes
 pub mod Messages
 pub mod Records
+pub mod Shares

@@ -5,7 +5,13 @@ mod bytes;
 mod msg;
 mod msg_bytes;
 mod record;
+mod record_bytes;
+mod shares;
 
 pub use msg::{Decide, Msg, Ready};
 pub use msg_bytes::{read_msg, write_msg};
 pub use record::{Record, decide_for};
+pub use record_bytes::{read_record, write_record};
+
+#[cfg(test)]
+mod tests;
