@@ -57,12 +57,13 @@ module _ (s : MemDisksState) (change : Change) (calls : DiskCalls) where
           inl (disk-past t j before ∙ ap (λ (n : ℕ). disk_at s n j) first) ]
 
 -- A change of one disk is all that happens to the others.
-pub calls-on : (s : MemDisksState) (i : ℕ) (step : Option Step) (calls : DiskCalls) → ((j : ℕ) → j ≢ i → slice_index calls.failed j ≡ slice_index s.calls.failed j) →
+pub calls-on : (s : MemDisksState) (i : ℕ) (step : Option Step) (calls : DiskCalls) → calls.failed ≡ s.calls.failed →
     AreCallsOn i (told_of s) (told_of (changed s (record { disk = i; step = step }) calls))
 calls-on s i step calls counts = record {
   told = λ told. told;
   disks = refl;
-  faults = counts;
+  later = let same = ap (λ (failed : List ℕ). slice_index failed i) counts in omega (arith, same);
+  faults = λ j differ. ap (λ (failed : List ℕ). slice_index failed j) counts;
   elapses = λ told. record {
     later = omega (arith, length-append s.changes (change ∷ []));
     past = λ t j image le. (λ left. subst (ImageOf image) (disk-past s change calls t j le) left, λ left. subst (ImageOf image) (sym (disk-past s change calls t j le)) left);

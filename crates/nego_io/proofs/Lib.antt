@@ -1,4 +1,5 @@
 pub mod BehindLaws
+pub mod CallLaws
 pub mod DiskLaws
 pub mod EndLaws
 pub mod FoundLaws

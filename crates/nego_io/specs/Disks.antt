@@ -35,10 +35,12 @@ pub record IsAsBefore (i : ℕ) (old new : ToldDisks) : Type 0 where
   pub content : new.content i ≡ old.content i
   pub images : (t : ℕ) (image : List ℕ) → IsSince old new t → new.leaves t i image ↔ LeavesNow old i image
 
--- What calls on one disk keep: what tells after them told before, time goes on, and no other disk changes.
+-- What calls on one disk keep: what tells after them told before, its count of faults doesn't fall, time goes on, and
+-- no other disk changes.
 pub record AreCallsOn (i : ℕ) (old new : ToldDisks) : Type 0 where
   pub told : IsTrue new.telling → IsTrue old.telling
   pub disks : new.disks ≡ old.disks
+  pub later : old.faults i ≤ new.faults i
   pub faults : (j : ℕ) → j ≢ i → new.faults j ≡ old.faults j
   pub elapses : IsTrue new.telling → Elapses old new
   pub others : (j : ℕ) → j ≢ i → IsTrue new.telling → IsAsBefore j old new
@@ -54,6 +56,12 @@ IsSynced d i = IsTrue d.telling → (image : List ℕ) → LeavesNow d i image �
 -- Where it is told, a stop at each moment since then leaves on the disk only images with P.
 abbrev pub LeavesOnly : (List ℕ → Type 0) → ℕ → ToldDisks → ToldDisks → Type 0
 LeavesOnly P i old new = IsTrue new.telling → (t : ℕ) (image : List ℕ) → IsSince old new t → new.leaves t i image → P image
+
+-- The disk was only read: its content stands, and a stop at each moment since leaves an image that it had.
+pub record IsRead (i : ℕ) (old new : ToldDisks) : Type 0 where
+  pub content : HasContent new i (old.content i)
+  pub images : LeavesOnly (LeavesNow old i) i old new
+  pub calls : AreCallsOn i old new
 
 -- An image that the disk had, after such a step.
 abbrev pub Follows : (List ℕ → List ℕ → Type 0) → ToldDisks → ℕ → List ℕ → Type 0

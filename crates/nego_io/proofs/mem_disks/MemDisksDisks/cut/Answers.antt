@@ -1,4 +1,4 @@
-use Rattle.std.proofs.Common.{ap, slice_index, Some, sym, subst}
+use Rattle.std.proofs.Common.{ap, Some, sym, subst}
 use Rattle.nego_io.specs.Disks.{LeavesOnly, Follows, AreCallsOn}
 use Rattle.nego_io.specs.MemDisks.{MemDisksState, MayLeave, told_of}
 use Rattle.nego_io.specs.declared.change.Step.{Step}
@@ -19,5 +19,5 @@ pub returns-in-Ok-clause-calls : goal.returns-in-Ok-clause-calls
 returns-in-Ok-clause-calls c =
     let i = c.args.i in
     let was : MemDisksState = record { first = c.self.inside.first; changes = c.self.inside.changes; calls = c.self.inside.calls } in
-    let made = subst (λ (s : MemDisksState). AreCallsOn i (told_of was) (told_of s)) (sym c.in-Ok.ensures.ok) (calls-on was i (Some (Cut c.args.to)) c.begin.new.self (λ j differ. ap (λ (calls : DiskCalls). slice_index calls.failed j) c.begin.ensures.counts)) in
+    let made = subst (λ (s : MemDisksState). AreCallsOn i (told_of was) (told_of s)) (sym c.in-Ok.ensures.ok) (calls-on was i (Some (Cut c.args.to)) c.begin.new.self (ap (λ (calls : DiskCalls). calls.failed) c.begin.ensures.counts)) in
     subst (λ (s : MemDisksState). AreCallsOn i (told_of s) (told_of c.shorten.new.self)) c.self.view_is made

@@ -1,0 +1,36 @@
+-- Files as slots: a gate, the 127 bytes of a record, and so on.
+use Rattle.std.specs.Prelude.{◌≡◌, ℕ, zero, suc, ◌*◌, ◌<◌, Bool, ◌&&◌, ◌==◌, nat_lt, if◌then◌else◌, List, [], ◌∷◌, ◌++◌, length, map, take, drop, slice_index, slice_get, Option, Some, All}
+use Rattle.agent_msg.specs.Records.{Entry}
+use Rattle.agent_msg.specs.Bytes.{EntryFits, SpellsEntry, entry_bytes}
+
+-- whether a file begins with a slot that counts: its gate is open, and something stands behind the slot
+abbrev pub begins_kept : List ℕ → Bool
+begins_kept file = (slice_index file 0 == 1) && nat_lt 128 (length file)
+
+-- the records of the slots that count, up to the first that doesn't, and at most so many
+unfoldable pub records_within : ℕ → List ℕ → List (List ℕ)
+records_within zero file = []
+records_within (suc most) file = if begins_kept file then take 127 (drop 1 file) ∷ records_within most (drop 128 file) else []
+
+-- the records that a file keeps; at most 10,000 count
+abbrev pub kept : List ℕ → List (List ℕ)
+kept file = records_within 10000 file
+
+-- The file stands for the list: its records, in order, are those that the file keeps.
+pub record StandsFor (file : List ℕ) (journal : List Entry) : Type 0 where
+  pub fit : All EntryFits journal
+  pub same : kept file ≡ map entry_bytes journal
+
+-- The gate behind so many slots is there and closed.
+abbrev pub IsClosed : ℕ → List ℕ → Type 0
+IsClosed count file = slice_get file (128 * count) ≡ Some 0
+
+-- Record k is the first of those that the file keeps that spells nothing.
+pub record IsFirstBad (file : List ℕ) (k : ℕ) : Type 0 where
+  pub before : List Entry
+  pub bad : List ℕ
+  pub after : List (List ℕ)
+  pub count : length before ≡ k
+  pub split : kept file ≡ map entry_bytes before ++ bad ∷ after
+  pub fit : All EntryFits before
+  pub none : (e : Entry) → SpellsEntry bad e → ⊥
