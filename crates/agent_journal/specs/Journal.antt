@@ -1,9 +1,11 @@
 -- Journals on disks that may stop at any moment.
-use Rattle.std.specs.Prelude.{◌≡◌, ℕ, ◌≤◌, Bool, false, IsTrue, ◌⊎◌, List, [], ◌∷◌, ◌++◌, length}
+use Rattle.std.specs.Prelude.{◌≡◌, ℕ, ◌+◌, ◌≤◌, Bool, true, false, IsTrue, ◌⊎◌, List, [], ◌∷◌, ◌++◌, length, Result, Ok, Err}
 use Rattle.nego_io.specs.Outside.{Rose}
 use Rattle.nego_io.specs.Disks.{ToldDisks, LeavesNow, IsSynced}
 use Rattle.agent_msg.specs.Records.{Entry}
 use Rattle.agent_msg.specs.Bytes.{entry_bytes}
+use Rattle.agent_journal.specs.declared.fault.JournalFault.{JournalFault}
+use Rattle.agent_journal.specs.declared.fault.JournalFault.TheVariants.{DiskFault, Full, BadRecord, MustReload, Memory}
 use Rattle.agent_journal.specs.Slots.{kept, StandsFor, IsClosed, IsFirstBad}
 
 -- A journal: how many records it has, and whether it has to be loaded again.
@@ -31,7 +33,30 @@ pub record KeepsSome (d : ToldDisks) (i : ℕ) (image : List ℕ) : Type 0 where
 abbrev pub KeepsOrAdds : List (List ℕ) → Entry → List ℕ → Type 0
 KeepsOrAdds records entry file = (kept file ≡ records) ⊎ (kept file ≡ records ++ entry_bytes entry ∷ [])
 
--- Each image of the disk since that moment begins with these records.
+-- Where it is told, each image of the disk since that moment begins with these records.
 abbrev pub BeginsWith : List (List ℕ) → ℕ → ℕ → ToldDisks → Type 0
 BeginsWith records from i d =
-    (t : ℕ) (image : List ℕ) → from ≤ t → t ≤ d.moment → d.leaves t i image → (more : List (List ℕ)) × (kept image ≡ records ++ more)
+    IsTrue d.telling →
+    (from ≤ d.moment) × ((t : ℕ) (image : List ℕ) → from ≤ t → t ≤ d.moment → d.leaves t i image → (more : List (List ℕ)) × (kept image ≡ records ++ more))
+
+-- What a load answers where it gives none: a fault of the disk has its cause, and a bad record is the first one.
+abbrev pub LoadFails : ℕ → ToldDisks → ToldDisks → JournalFault → Type 0
+LoadFails i old new DiskFault = Rose (old.faults i) (new.faults i)
+LoadFails i old new Full = ⊥
+LoadFails i old new (BadRecord k) = IsTrue new.telling → IsFirstBad (old.content i) k
+LoadFails i old new MustReload = ⊥
+LoadFails i old new Memory = Unit {0}
+
+-- What an append answers where it appends nothing: a fault of the disk has its cause.
+abbrev pub AppendFails : ℕ → ToldDisks → ToldDisks → JournalFault → Type 0
+AppendFails i old new DiskFault = Rose (old.faults i) (new.faults i)
+AppendFails i old new Full = Unit {0}
+AppendFails i old new (BadRecord k) = ⊥
+AppendFails i old new MustReload = Unit {0}
+AppendFails i old new Memory = ⊥
+
+-- the journal after an append: one more record, or after a fault of the disk the need to be loaded again
+abbrev pub after_append : Result (Unit {0}) JournalFault → JournalState → JournalState
+after_append (Ok done) journal = record journal { count = journal.count + 1 }
+after_append (Err DiskFault) journal = record journal { failed = true }
+after_append (Err fault) journal = journal

@@ -1,7 +1,10 @@
 -- Files as slots: a gate, the 127 bytes of a record, and so on.
-use Rattle.std.specs.Prelude.{◌≡◌, ℕ, zero, suc, ◌*◌, ◌<◌, Bool, ◌&&◌, ◌==◌, nat_lt, if◌then◌else◌, List, [], ◌∷◌, ◌++◌, length, map, take, drop, slice_index, slice_get, Option, Some, All}
-use Rattle.agent_msg.specs.Records.{Entry}
+use Rattle.std.specs.Prelude.{◌≡◌, ℕ, zero, suc, ◌*◌, ◌<◌, Bool, true, false, ◌&&◌, ◌==◌, nat_lt, if◌then◌else◌, List, [], ◌∷◌, ◌++◌, length, map, take, drop, slice_index, slice_get, Option, Some, None, Result, Ok, Err, All}
+use Rattle.agent_msg.specs.declared.record.Record.{Record}
+use Rattle.agent_msg.specs.Records.{Entry, entry, IsTidy}
 use Rattle.agent_msg.specs.Bytes.{EntryFits, SpellsEntry, entry_bytes}
+use Rattle.agent_journal.specs.declared.fault.JournalFault.{JournalFault}
+use Rattle.agent_journal.specs.declared.fault.JournalFault.TheVariants.{BadRecord}
 
 -- whether a file begins with a slot that counts: its gate is open, and something stands behind the slot
 abbrev pub begins_kept : List ℕ → Bool
@@ -34,3 +37,11 @@ pub record IsFirstBad (file : List ℕ) (k : ℕ) : Type 0 where
   pub split : kept file ≡ map entry_bytes before ++ bad ∷ after
   pub fit : All EntryFits before
   pub none : (e : Entry) → SpellsEntry bad e → ⊥
+
+-- What a slot, with what stands behind it, says of its place: nothing where it doesn't count, else its record, or that
+-- it spells none.
+abbrev pub SlotSays : ℕ → List ℕ → Result (Option Record) JournalFault → Type 0
+SlotSays k rest (Ok None) = begins_kept rest ≡ false
+SlotSays k rest (Ok (Some r)) = (begins_kept rest ≡ true) × (SpellsEntry (take 127 (drop 1 rest)) (entry r) × IsTidy r)
+SlotSays k rest (Err (BadRecord j)) = (j ≡ k) × ((begins_kept rest ≡ true) × ((e : Entry) → SpellsEntry (take 127 (drop 1 rest)) e → ⊥))
+SlotSays k rest (Err fault) = Unit {0}

@@ -1,0 +1,104 @@
+//! An agent's journal.
+ghost use Rattle.std.specs.Prelude.{◌≡◌, ℕ, ◌<◌, ◌≤◌, ◌+◌, ◌++◌, ◌∷◌, [], ◌↔◌, ◌⊎◌, false, true, All, length, List, IsTrue, IfOk, IfErr, OnOk, OnErr};
+ghost use Rattle.nego_io.specs.Disks.{LeavesOnly, AreCallsOn};
+ghost use Rattle.agent_msg.specs.Records.{entry, entries, IsTidy};
+ghost use Rattle.agent_msg.specs.Bytes.{EntryFits, entry_bytes};
+ghost use Rattle.agent_journal.specs.Slots.{kept, StandsFor};
+ghost use Rattle.agent_journal.specs.Journal.{IsSettled, IsReady, KeepsSome, KeepsOrAdds, BeginsWith, LoadFails, AppendFails, after_append};
+
+use crate::JournalFault;
+use crate::slots::{MOST, close, gate, put, read_records, shorten};
+use agent_msg::Record;
+use nego_base::Seq;
+use nego_io::Disks;
+use std::alloc::Global;
+use std::marker::Model;
+
+/// A journal on a disk. Contracts see how many records it has, and whether it has to be loaded again.
+#[derive(Debug, Drop)]
+pub struct Journal {
+    count: u32,
+    failed: bool,
+}
+
+impl Model for Journal {
+    ghost use Rattle.std.specs.Prelude.{◌≤◌};
+    ghost use Rattle.agent_journal.specs.Journal.{JournalState};
+
+    ghost Value = { JournalState };
+
+    ghost view = { λ j. record { count = j.count; failed = j.failed } };
+
+    ghost invariant = { λ j. j.count ≤ 10000 };
+}
+
+impl Journal {
+    /// The journal that a disk keeps, and its records. What stands behind the records that count is cut off, and the
+    /// next gate closed. A stop at any moment leaves an image that keeps the records of one that was there before.
+    pub fn load<D: Disks>(
+        alloc: Global,
+        disks: &mut D,
+        i: u32,
+    ) -> Result<(Journal, Seq<Record>), JournalFault>
+        requires { i < (D.told disks.old).disks }
+        ensures records { IfOk result (λ r. IsTrue (D.told disks.new).telling → StandsFor ((D.told disks.old).content i) (entries r.1)) }
+        ensures tidy { IfOk result (λ r. All IsTidy r.1) }
+        ensures journal { IfOk result (λ r. r.0 ≡ record { count = length r.1; failed = false }) }
+        ensures settled { IfOk result (λ r. IsSettled (D.told disks.new) i (length r.1)) }
+        ensures kept { IfOk result (λ r. IsTrue (D.told disks.new).telling → kept ((D.told disks.new).content i) ≡ kept ((D.told disks.old).content i)) }
+        ensures images { LeavesOnly (KeepsSome (D.told disks.old) i) i (D.told disks.old) (D.told disks.new) }
+        ensures calls { AreCallsOn i (D.told disks.old) (D.told disks.new) }
+        ensures err { IfErr result (LoadFails i (D.told disks.old) (D.told disks.new)) }
+    {
+        disks.sync(i)?;
+        let records = read_records(alloc, disks, i)?;
+        let count = records.len() as u32;
+        shorten(disks, i, gate(count) + 1)?;
+        close(disks, i, gate(count))?;
+        let journal = Journal {
+            count,
+            failed: false,
+        };
+        Ok((journal, records))
+    }
+
+    /// Appends a record. A stop at any moment leaves an image that keeps the records from before, or these and the new
+    /// one; once it answers Ok each image keeps the new one too.
+    pub fn append<D: Disks>(
+        &mut self,
+        disks: &mut D,
+        i: u32,
+        r: &Record,
+    ) -> Result<(), JournalFault>
+        requires disk { i < (D.told disks.old).disks }
+        requires spelled { EntryFits (entry r.now) }
+        requires ready { IsReady self.old (D.told disks.old) i }
+        ensures must_reload { (result ≡ Err JournalFault.MustReload) ↔ (self.old.failed ≡ true) }
+        ensures full { (result ≡ Err JournalFault.Full) ↔ ((self.old.failed ≡ false) × (self.old.count ≡ 10000)) }
+        ensures journal { self.new ≡ after_append result self.old }
+        ensures err { IfErr result (AppendFails i (D.told disks.old) (D.told disks.new)) }
+        ensures untouched { (self.old.failed ≡ true) ⊎ (self.old.count ≡ 10000) → disks.new ≡ disks.old }
+        ensures settled { OnOk result (IsSettled (D.told disks.new) i (self.old.count + 1)) }
+        ensures added { OnOk result (IsTrue (D.told disks.new).telling → kept ((D.told disks.new).content i) ≡ kept ((D.told disks.old).content i) ++ entry_bytes (entry r.now) ∷ []) }
+        ensures images { self.old.failed ≡ false → LeavesOnly (KeepsOrAdds (kept ((D.told disks.old).content i)) (entry r.now)) i (D.told disks.old) (D.told disks.new) }
+        ensures grows { (records : List (List ℕ)) (from : ℕ) → BeginsWith records from i (D.told disks.old) → BeginsWith records from i (D.told disks.new) }
+        ensures calls { AreCallsOn i (D.told disks.old) (D.told disks.new) }
+    {
+        if self.failed {
+            return Err(JournalFault::MustReload);
+        }
+        if self.count >= MOST {
+            return Err(JournalFault::Full);
+        }
+        match put(disks, i, self.count, r) {
+            Ok(()) => {
+                self.count += 1;
+                Ok(())
+            }
+            Err(_) => {
+                self.failed = true;
+                Err(JournalFault::DiskFault)
+            }
+        }
+    }
+}

@@ -1,0 +1,130 @@
+//! The slots of a journal on a disk: a gate, the 127 bytes of a record, and so on.
+ghost use Rattle.std.specs.Prelude.{◌≡◌, ℕ, ◌<◌, ◌≤◌, ◌+◌, ◌*◌, ◌++◌, ◌∷◌, [], All, length, drop, take, slice_get, IsTrue, IfOk, IfErr, OnOk, OnErr, Some};
+ghost use Rattle.nego_io.specs.Outside.{Rose};
+ghost use Rattle.nego_io.specs.Disks.{LeavesOnly, Follows, AreCallsOn, HasContent, IsRead, IsSynced, Torn, Ragged};
+ghost use Rattle.agent_msg.specs.Records.{entry, entries, IsTidy};
+ghost use Rattle.agent_msg.specs.Bytes.{EntryFits, entry_bytes};
+ghost use Rattle.agent_journal.specs.Slots.{kept, StandsFor, IsClosed, SlotSays};
+ghost use Rattle.agent_journal.specs.Journal.{IsSettled, KeepsOrAdds, LoadFails};
+
+use crate::JournalFault;
+use agent_msg::{Record, read_record, write_record};
+use nego_base::Seq;
+use nego_io::{Disks, Failed};
+use std::alloc::Global;
+
+/// The most records that count.
+pub const MOST: u32 = 10_000;
+
+/// The gate before a record that counts, and the one before a record that doesn't.
+const OPEN: u8 = 1;
+
+const CLOSED: u8 = 0;
+
+/// The place of a slot's gate.
+pub fn gate(k: u32) -> u64
+    requires { k ≤ 10000 }
+    ensures { result ≡ 128 * k }
+{
+    128 * u64::from(k)
+}
+
+/// The record of a slot. None where the slot doesn't count by itself.
+fn read_slot<D: Disks>(disks: &mut D, i: u32, k: u32) -> Result<Option<Record>, JournalFault>
+    requires disk { i < (D.told disks.old).disks }
+    requires place { k < 10000 }
+    ensures read { IsRead i (D.told disks.old) (D.told disks.new) }
+    ensures says { IsTrue (D.told disks.new).telling → SlotSays k (drop (128 * k) ((D.told disks.old).content i)) result }
+    ensures fault { result ≡ Err JournalFault.DiskFault → Rose ((D.told disks.old).faults i) ((D.told disks.new).faults i) }
+{
+    let mut slot = [0; 129];
+    let n = disks.read(i, gate(k), &mut slot)?;
+    if n < slot.len() || slot[0] != OPEN {
+        return Ok(None);
+    }
+    match read_record(&slot[1..128]) {
+        Some(record) => Ok(Some(record)),
+        None => Err(JournalFault::BadRecord(k)),
+    }
+}
+
+/// The records that a disk keeps.
+pub fn read_records<D: Disks>(
+    alloc: Global,
+    disks: &mut D,
+    i: u32,
+) -> Result<Seq<Record>, JournalFault>
+    requires { i < (D.told disks.old).disks }
+    ensures read { IsRead i (D.told disks.old) (D.told disks.new) }
+    ensures records { IfOk result (λ records. IsTrue (D.told disks.new).telling → StandsFor ((D.told disks.old).content i) (entries records)) }
+    ensures count { IfOk result (λ records. length records ≤ 10000) }
+    ensures tidy { IfOk result (All IsTidy) }
+    ensures err { IfErr result (LoadFails i (D.told disks.old) (D.told disks.new)) }
+{
+    let mut records = Seq::new(alloc);
+    for k in 0..MOST {
+        let Some(record) = read_slot(disks, i, k)? else {
+            return Ok(records);
+        };
+        records.push(record)?;
+    }
+    Ok(records)
+}
+
+/// Cuts a disk to a length where it is longer.
+pub fn shorten<D: Disks>(disks: &mut D, i: u32, to: u64) -> Result<(), Failed>
+    requires disk { i < (D.told disks.old).disks }
+    requires synced { IsSynced (D.told disks.old) i }
+    ensures images { LeavesOnly (Ragged to ((D.told disks.old).content i)) i (D.told disks.old) (D.told disks.new) }
+    ensures content { OnOk result (HasContent (D.told disks.new) i (take to ((D.told disks.old).content i))) }
+    ensures synced { OnOk result (IsSynced (D.told disks.new) i) }
+    ensures calls { AreCallsOn i (D.told disks.old) (D.told disks.new) }
+    ensures fault { OnErr result (Rose ((D.told disks.old).faults i) ((D.told disks.new).faults i)) }
+{
+    if disks.len(i)? > to {
+        disks.cut(i, to)?;
+        disks.sync(i)?;
+    }
+    Ok(())
+}
+
+/// Closes the gate at a place where it isn't closed.
+pub fn close<D: Disks>(disks: &mut D, i: u32, at: u64) -> Result<(), Failed>
+    requires disk { i < (D.told disks.old).disks }
+    requires synced { IsSynced (D.told disks.old) i }
+    requires within { IsTrue (D.told disks.old).telling → at ≤ length ((D.told disks.old).content i) }
+    ensures images { LeavesOnly (Torn at 1 ((D.told disks.old).content i)) i (D.told disks.old) (D.told disks.new) }
+    ensures closed { OnOk result (IsTrue (D.told disks.new).telling → slice_get ((D.told disks.new).content i) at ≡ Some 0) }
+    ensures synced { OnOk result (IsSynced (D.told disks.new) i) }
+    ensures calls { AreCallsOn i (D.told disks.old) (D.told disks.new) }
+    ensures fault { OnErr result (Rose ((D.told disks.old).faults i) ((D.told disks.new).faults i)) }
+{
+    let mut found = [OPEN];
+    let n = disks.read(i, at, &mut found)?;
+    if n == 0 || found[0] != CLOSED {
+        disks.write_at(i, at, &[CLOSED])?;
+        disks.sync(i)?;
+    }
+    Ok(())
+}
+
+/// Puts a record behind those that a disk keeps: first itself with a closed gate behind it, and then, once it is on the
+/// disk, its open gate.
+pub fn put<D: Disks>(disks: &mut D, i: u32, count: u32, record: &Record) -> Result<(), Failed>
+    requires disk { i < (D.told disks.old).disks }
+    requires place { count < 10000 }
+    requires settled { IsSettled (D.told disks.old) i count }
+    ensures images { LeavesOnly (KeepsOrAdds (kept ((D.told disks.old).content i)) (entry record.now)) i (D.told disks.old) (D.told disks.new) }
+    ensures settled { OnOk result (IsSettled (D.told disks.new) i (count + 1)) }
+    ensures added { OnOk result (IsTrue (D.told disks.new).telling → kept ((D.told disks.new).content i) ≡ kept ((D.told disks.old).content i) ++ entry_bytes (entry record.now) ∷ []) }
+    ensures calls { AreCallsOn i (D.told disks.old) (D.told disks.new) }
+    ensures fault { OnErr result (Rose ((D.told disks.old).faults i) ((D.told disks.new).faults i)) }
+{
+    let mut slot = [CLOSED; 128];
+    slot[..127].copy_from_slice(&write_record(record));
+    disks.write_at(i, gate(count) + 1, &slot)?;
+    disks.sync(i)?;
+    disks.write_at(i, gate(count), &[OPEN])?;
+    disks.sync(i)?;
+    Ok(())
+}
