@@ -1,0 +1,4 @@
+pub mod DiskLaws
+pub mod FileLaws
+pub mod PutCalls
+pub mod PutLaws

@@ -1,5 +1,6 @@
 -- Files as slots: a gate, the 127 bytes of a record, and so on.
 use Rattle.std.specs.Prelude.{◌≡◌, ℕ, zero, suc, ◌*◌, ◌<◌, Bool, true, false, ◌&&◌, ◌==◌, nat_lt, if◌then◌else◌, List, [], ◌∷◌, ◌++◌, length, map, take, drop, slice_index, slice_get, Option, Some, None, Result, Ok, Err, All}
+use Rattle.nego_io.specs.Disks.{Torn}
 use Rattle.agent_msg.specs.declared.record.Record.{Record}
 use Rattle.agent_msg.specs.Records.{Entry, entry, IsTidy}
 use Rattle.agent_msg.specs.Bytes.{EntryFits, SpellsEntry, entry_bytes}
@@ -27,6 +28,11 @@ pub record StandsFor (file : List ℕ) (journal : List Entry) : Type 0 where
 -- The gate behind so many slots is there and closed.
 abbrev pub IsClosed : ℕ → List ℕ → Type 0
 IsClosed count file = slice_get file (128 * count) ≡ Some 0
+
+-- The byte at this place is there and closed; it was so before, or it was written over what was there.
+pub record Closes (at : ℕ) (before file : List ℕ) : Type 0 where
+  pub closed : slice_get file at ≡ Some 0
+  pub torn : Torn at 1 before file
 
 -- Record k is the first of those that the file keeps that spells nothing.
 pub record IsFirstBad (file : List ℕ) (k : ℕ) : Type 0 where

@@ -1,10 +1,10 @@
 //! The slots of a journal on a disk: a gate, the 127 bytes of a record, and so on.
 ghost use Rattle.std.specs.Prelude.{◌≡◌, ℕ, ◌<◌, ◌≤◌, ◌+◌, ◌*◌, ◌++◌, ◌∷◌, [], All, length, drop, take, slice_get, IsTrue, IfOk, IfErr, OnOk, OnErr, Some};
 ghost use Rattle.nego_io.specs.Outside.{Rose};
-ghost use Rattle.nego_io.specs.Disks.{LeavesOnly, Follows, AreCallsOn, HasContent, IsRead, IsSynced, Torn, Ragged};
+ghost use Rattle.nego_io.specs.Disks.{LeavesOnly, Follows, AreCallsOn, HasContent, IsRead, IsSynced, overwritten, Torn, Ragged};
 ghost use Rattle.agent_msg.specs.Records.{entry, entries, IsTidy};
 ghost use Rattle.agent_msg.specs.Bytes.{EntryFits, entry_bytes};
-ghost use Rattle.agent_journal.specs.Slots.{kept, StandsFor, IsClosed, SlotSays};
+ghost use Rattle.agent_journal.specs.Slots.{kept, StandsFor, Closes, SlotSays};
 ghost use Rattle.agent_journal.specs.Journal.{IsSettled, KeepsOrAdds, LoadFails};
 
 use crate::JournalFault;
@@ -88,13 +88,28 @@ pub fn shorten<D: Disks>(disks: &mut D, i: u32, to: u64) -> Result<(), Failed>
     Ok(())
 }
 
+/// Writes a piece over a disk, and sees that it is on the disk.
+fn write_through<D: Disks>(disks: &mut D, i: u32, at: u64, piece: &[u8]) -> Result<(), Failed>
+    requires disk { i < (D.told disks.old).disks }
+    requires synced { IsSynced (D.told disks.old) i }
+    requires within { IsTrue (D.told disks.old).telling → at ≤ length ((D.told disks.old).content i) }
+    ensures images { LeavesOnly (Torn at (length piece.now) ((D.told disks.old).content i)) i (D.told disks.old) (D.told disks.new) }
+    ensures content { OnOk result (HasContent (D.told disks.new) i (overwritten at piece.now ((D.told disks.old).content i))) }
+    ensures synced { OnOk result (IsSynced (D.told disks.new) i) }
+    ensures calls { AreCallsOn i (D.told disks.old) (D.told disks.new) }
+    ensures fault { OnErr result (Rose ((D.told disks.old).faults i) ((D.told disks.new).faults i)) }
+{
+    disks.write_at(i, at, piece)?;
+    disks.sync(i)
+}
+
 /// Closes the gate at a place where it isn't closed.
 pub fn close<D: Disks>(disks: &mut D, i: u32, at: u64) -> Result<(), Failed>
     requires disk { i < (D.told disks.old).disks }
     requires synced { IsSynced (D.told disks.old) i }
     requires within { IsTrue (D.told disks.old).telling → at ≤ length ((D.told disks.old).content i) }
     ensures images { LeavesOnly (Torn at 1 ((D.told disks.old).content i)) i (D.told disks.old) (D.told disks.new) }
-    ensures closed { OnOk result (IsTrue (D.told disks.new).telling → slice_get ((D.told disks.new).content i) at ≡ Some 0) }
+    ensures content { OnOk result (IsTrue (D.told disks.new).telling → Closes at ((D.told disks.old).content i) ((D.told disks.new).content i)) }
     ensures synced { OnOk result (IsSynced (D.told disks.new) i) }
     ensures calls { AreCallsOn i (D.told disks.old) (D.told disks.new) }
     ensures fault { OnErr result (Rose ((D.told disks.old).faults i) ((D.told disks.new).faults i)) }
@@ -102,29 +117,33 @@ pub fn close<D: Disks>(disks: &mut D, i: u32, at: u64) -> Result<(), Failed>
     let mut found = [OPEN];
     let n = disks.read(i, at, &mut found)?;
     if n == 0 || found[0] != CLOSED {
-        disks.write_at(i, at, &[CLOSED])?;
-        disks.sync(i)?;
+        return write_through(disks, i, at, &[CLOSED]);
     }
     Ok(())
 }
 
+/// A record with a closed gate behind it.
+fn closed_behind(r: &Record) -> [u8; 128]
+    ensures value { result ≡ entry_bytes (entry r.now) ++ 0 ∷ [] }
+    ensures whole { length (entry_bytes (entry r.now)) ≡ 127 }
+{
+    let mut slot = [CLOSED; 128];
+    slot[..127].copy_from_slice(&write_record(r));
+    slot
+}
+
 /// Puts a record behind those that a disk keeps: first itself with a closed gate behind it, and then, once it is on the
 /// disk, its open gate.
-pub fn put<D: Disks>(disks: &mut D, i: u32, count: u32, record: &Record) -> Result<(), Failed>
+pub fn put<D: Disks>(disks: &mut D, i: u32, count: u32, r: &Record) -> Result<(), Failed>
     requires disk { i < (D.told disks.old).disks }
     requires place { count < 10000 }
     requires settled { IsSettled (D.told disks.old) i count }
-    ensures images { LeavesOnly (KeepsOrAdds (kept ((D.told disks.old).content i)) (entry record.now)) i (D.told disks.old) (D.told disks.new) }
+    ensures images { LeavesOnly (KeepsOrAdds (kept ((D.told disks.old).content i)) (entry r.now)) i (D.told disks.old) (D.told disks.new) }
     ensures settled { OnOk result (IsSettled (D.told disks.new) i (count + 1)) }
-    ensures added { OnOk result (IsTrue (D.told disks.new).telling → kept ((D.told disks.new).content i) ≡ kept ((D.told disks.old).content i) ++ entry_bytes (entry record.now) ∷ []) }
+    ensures added { OnOk result (IsTrue (D.told disks.new).telling → kept ((D.told disks.new).content i) ≡ kept ((D.told disks.old).content i) ++ entry_bytes (entry r.now) ∷ []) }
     ensures calls { AreCallsOn i (D.told disks.old) (D.told disks.new) }
     ensures fault { OnErr result (Rose ((D.told disks.old).faults i) ((D.told disks.new).faults i)) }
 {
-    let mut slot = [CLOSED; 128];
-    slot[..127].copy_from_slice(&write_record(record));
-    disks.write_at(i, gate(count) + 1, &slot)?;
-    disks.sync(i)?;
-    disks.write_at(i, gate(count), &[OPEN])?;
-    disks.sync(i)?;
-    Ok(())
+    write_through(disks, i, gate(count) + 1, &closed_behind(r))?;
+    write_through(disks, i, gate(count), &[OPEN])
 }
