@@ -333,3 +333,16 @@ written-gate rs r back whole =
     let rest : drop (m + 1) file ≡ r ++ 0 ∷ back = sym (drop-drop 1 m file) ∙ ap (λ (xs : List ℕ). drop 1 xs) (drop_at (open_slots rs) (0 ∷ (r ++ 0 ∷ back)) m place) in
     ap (λ (xs : List ℕ). xs ++ 1 ∷ drop (m + 1) file) (take_at (open_slots rs) (0 ∷ (r ++ 0 ∷ back)) m place)
     ∙ ap (λ (xs : List ℕ). open_slots rs ++ 1 ∷ xs) rest
+
+-- What was read of a slot and one byte more: the slot counts by itself, and this is its record.
+pub slot-read : (slot rest : List ℕ) (n : ℕ) → length slot ≡ 129 → take n slot ≡ take (length slot) rest → 129 ≤ n → get_or slot 0 0 ≡ 1 →
+    (begins_kept rest ≡ true) × (take 127 (drop 1 slot) ≡ take 127 (drop 1 rest))
+slot-read slot rest n long is all first =
+    let whole : slot ≡ take 129 rest = sym (take_all n slot (omega (arith, long, all))) ∙ (is ∙ ap (λ (k : ℕ). take k rest) long) in
+    let many : 129 ≤ length rest = let both = ap (λ (xs : List ℕ). length xs) whole in omega (arith, both, long, length-take 129 rest) in
+    let gate : get_or rest 0 0 ≡ 1 = sym (get_or-take 129 rest 0 0 (omega arith)) ∙ (ap (λ (xs : List ℕ). get_or xs 0 0) (sym whole) ∙ first) in
+    (begins-from rest gate (omega (arith, many)), ap (λ (xs : List ℕ). take 127 (drop 1 xs)) whole ∙ record-of rest)
+  where
+    record-of : (rest : List ℕ) → take 127 (drop 1 (take 129 rest)) ≡ take 127 (drop 1 rest)
+    record-of [] = refl
+    record-of (x ∷ rest) = take-take 127 128 rest (omega arith)

@@ -1,4 +1,5 @@
 pub mod DiskLaws
 pub mod FileLaws
+pub mod LoadLaws
 pub mod PutCalls
 pub mod PutLaws

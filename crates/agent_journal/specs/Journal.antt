@@ -1,12 +1,12 @@
 -- Journals on disks that may stop at any moment.
-use Rattle.std.specs.Prelude.{◌≡◌, ℕ, ◌+◌, ◌≤◌, Bool, true, false, IsTrue, ◌⊎◌, List, [], ◌∷◌, ◌++◌, length, Result, Ok, Err}
+use Rattle.std.specs.Prelude.{◌≡◌, ℕ, ◌+◌, ◌*◌, ◌≤◌, Bool, true, false, IsTrue, ◌⊎◌, List, [], ◌∷◌, ◌++◌, length, drop, Result, Ok, Err}
 use Rattle.nego_io.specs.Outside.{Rose}
 use Rattle.nego_io.specs.Disks.{ToldDisks, LeavesNow, IsSynced}
 use Rattle.agent_msg.specs.Records.{Entry}
 use Rattle.agent_msg.specs.Bytes.{entry_bytes}
 use Rattle.agent_journal.specs.declared.fault.JournalFault.{JournalFault}
 use Rattle.agent_journal.specs.declared.fault.JournalFault.TheVariants.{DiskFault, Full, BadRecord, MustReload, Memory}
-use Rattle.agent_journal.specs.Slots.{kept, StandsFor, IsClosed, IsFirstBad}
+use Rattle.agent_journal.specs.Slots.{kept, StandsFor, IsClosed, IsFirstBad, IsBadFirst}
 
 -- A journal: how many records it has, and whether it has to be loaded again.
 pub record JournalState : Type 0 where
@@ -60,3 +60,11 @@ abbrev pub after_append : Result (Unit {0}) JournalFault → JournalState → Jo
 after_append (Ok done) journal = record journal { count = journal.count + 1 }
 after_append (Err DiskFault) journal = record journal { failed = true }
 after_append (Err fault) journal = journal
+
+-- What the reading of slot k answers where it reads none.
+abbrev pub SlotFails : ℕ → ℕ → ToldDisks → ToldDisks → JournalFault → Type 0
+SlotFails i k old new DiskFault = Rose (old.faults i) (new.faults i)
+SlotFails i k old new Full = ⊥
+SlotFails i k old new (BadRecord j) = (j ≡ k) × (IsTrue new.telling → IsBadFirst (drop (128 * k) (old.content i)))
+SlotFails i k old new MustReload = ⊥
+SlotFails i k old new Memory = ⊥

@@ -1,11 +1,13 @@
 -- Files as slots: a gate, the 127 bytes of a record, and so on.
-use Rattle.std.specs.Prelude.{◌≡◌, ℕ, zero, suc, ◌*◌, ◌<◌, Bool, true, false, ◌&&◌, ◌==◌, nat_lt, if◌then◌else◌, List, [], ◌∷◌, ◌++◌, length, map, take, drop, slice_index, slice_get, Option, Some, None, Result, Ok, Err, All}
+use Rattle.std.specs.Prelude.{◌≡◌, ℕ, zero, suc, ◌*◌, ◌<◌, Bool, true, false, ◌&&◌, ◌==◌, nat_lt, if◌then◌else◌, List, [], ◌∷◌, ◌++◌, length, map, take, drop, slice_index, slice_get, Option, Some, None, All}
 use Rattle.nego_io.specs.Disks.{Torn}
 use Rattle.agent_msg.specs.declared.record.Record.{Record}
-use Rattle.agent_msg.specs.Records.{Entry, entry, IsTidy}
+use Rattle.agent_msg.specs.Records.{Entry, entry}
 use Rattle.agent_msg.specs.Bytes.{EntryFits, SpellsEntry, entry_bytes}
-use Rattle.agent_journal.specs.declared.fault.JournalFault.{JournalFault}
-use Rattle.agent_journal.specs.declared.fault.JournalFault.TheVariants.{BadRecord}
+
+-- the record of a file's first slot
+abbrev pub first_record : List ℕ → List ℕ
+first_record file = take 127 (drop 1 file)
 
 -- whether a file begins with a slot that counts: its gate is open, and something stands behind the slot
 abbrev pub begins_kept : List ℕ → Bool
@@ -14,7 +16,7 @@ begins_kept file = (slice_index file 0 == 1) && nat_lt 128 (length file)
 -- the records of the slots that count, up to the first that doesn't, and at most so many
 unfoldable pub records_within : ℕ → List ℕ → List (List ℕ)
 records_within zero file = []
-records_within (suc most) file = if begins_kept file then take 127 (drop 1 file) ∷ records_within most (drop 128 file) else []
+records_within (suc most) file = if begins_kept file then first_record file ∷ records_within most (drop 128 file) else []
 
 -- the records that a file keeps; at most 10,000 count
 abbrev pub kept : List ℕ → List (List ℕ)
@@ -44,10 +46,12 @@ pub record IsFirstBad (file : List ℕ) (k : ℕ) : Type 0 where
   pub fit : All EntryFits before
   pub none : (e : Entry) → SpellsEntry bad e → ⊥
 
--- What a slot, with what stands behind it, says of its place: nothing where it doesn't count, else its record, or that
--- it spells none.
-abbrev pub SlotSays : ℕ → List ℕ → Result (Option Record) JournalFault → Type 0
-SlotSays k rest (Ok None) = begins_kept rest ≡ false
-SlotSays k rest (Ok (Some r)) = (begins_kept rest ≡ true) × (SpellsEntry (take 127 (drop 1 rest)) (entry r) × IsTidy r)
-SlotSays k rest (Err (BadRecord j)) = (j ≡ k) × ((begins_kept rest ≡ true) × ((e : Entry) → SpellsEntry (take 127 (drop 1 rest)) e → ⊥))
-SlotSays k rest (Err fault) = Unit {0}
+-- A file's first slot doesn't count, or it counts and this is its record.
+abbrev pub SaysFirst : List ℕ → Option Record → Type 0
+SaysFirst file None = begins_kept file ≡ false
+SaysFirst file (Some r) = (begins_kept file ≡ true) × SpellsEntry (first_record file) (entry r)
+
+-- A file's first slot counts, and its record spells nothing.
+pub record IsBadFirst (file : List ℕ) : Type 0 where
+  pub counts : begins_kept file ≡ true
+  pub none : (e : Entry) → SpellsEntry (first_record file) e → ⊥

@@ -1,11 +1,11 @@
 //! The slots of a journal on a disk: a gate, the 127 bytes of a record, and so on.
-ghost use Rattle.std.specs.Prelude.{◌≡◌, ℕ, ◌<◌, ◌≤◌, ◌+◌, ◌*◌, ◌++◌, ◌∷◌, [], All, length, drop, take, slice_get, IsTrue, IfOk, IfErr, OnOk, OnErr, Some};
+ghost use Rattle.std.specs.Prelude.{◌≡◌, ℕ, ◌<◌, ◌≤◌, ◌+◌, ◌*◌, ◌++◌, ◌∷◌, [], All, length, drop, take, slice_get, IsTrue, IfSome, IfOk, IfErr, OnOk, OnErr, Some};
 ghost use Rattle.nego_io.specs.Outside.{Rose};
 ghost use Rattle.nego_io.specs.Disks.{LeavesOnly, Follows, AreCallsOn, HasContent, IsRead, IsSynced, overwritten, Torn, Ragged};
 ghost use Rattle.agent_msg.specs.Records.{entry, entries, IsTidy};
 ghost use Rattle.agent_msg.specs.Bytes.{EntryFits, entry_bytes};
-ghost use Rattle.agent_journal.specs.Slots.{kept, StandsFor, Closes, SlotSays};
-ghost use Rattle.agent_journal.specs.Journal.{IsSettled, KeepsOrAdds, LoadFails};
+ghost use Rattle.agent_journal.specs.Slots.{kept, StandsFor, Closes, SaysFirst};
+ghost use Rattle.agent_journal.specs.Journal.{IsSettled, KeepsOrAdds, LoadFails, SlotFails};
 
 use crate::JournalFault;
 use agent_msg::{Record, read_record, write_record};
@@ -34,8 +34,9 @@ fn read_slot<D: Disks>(disks: &mut D, i: u32, k: u32) -> Result<Option<Record>, 
     requires disk { i < (D.told disks.old).disks }
     requires place { k < 10000 }
     ensures read { IsRead i (D.told disks.old) (D.told disks.new) }
-    ensures says { IsTrue (D.told disks.new).telling → SlotSays k (drop (128 * k) ((D.told disks.old).content i)) result }
-    ensures fault { result ≡ Err JournalFault.DiskFault → Rose ((D.told disks.old).faults i) ((D.told disks.new).faults i) }
+    ensures ok { IfOk result (λ slot. IsTrue (D.told disks.new).telling → SaysFirst (drop (128 * k) ((D.told disks.old).content i)) slot) }
+    ensures tidy { IfOk result (λ slot. IfSome slot IsTidy) }
+    ensures err { IfErr result (SlotFails i k (D.told disks.old) (D.told disks.new)) }
 {
     let mut slot = [0; 129];
     let n = disks.read(i, gate(k), &mut slot)?;
