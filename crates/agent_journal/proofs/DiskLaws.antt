@@ -1,7 +1,6 @@
 -- Calls on a disk with nothing pending.
-use Rattle.std.proofs.Common.{◌≡◌, ℕ, ◌≤◌, ◌⊎◌, inl, inr, IsTrue, List, refl, sym, ◌∙◌, subst, arith}
-use Rattle.nego_io.specs.Disks.{ToldDisks, LeavesNow, LeavesOnly, Follows, AreCallsOn, IsRead, IsSynced, HasContent}
-use Rattle.nego_io.proofs.CallLaws.{calls-then, leaves-then, leaves-weaker}
+use Rattle.std.proofs.Common.{◌≡◌, ℕ, List, sym, ◌∙◌, subst, arith}
+use Rattle.nego_io.specs.Disks.{ToldDisks, LeavesOnly, Follows, AreCallsOn, IsRead, IsSynced}
 
 -- A step from a disk with nothing pending is one from its content.
 pub steps-from : (Step : List ℕ → List ℕ → Type 0) (i : ℕ) (a b : ToldDisks) → AreCallsOn i a b → IsSynced a i → LeavesOnly (Follows Step a i) i a b → LeavesOnly (Step (a.content i)) i a b

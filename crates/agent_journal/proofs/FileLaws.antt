@@ -1,11 +1,11 @@
 -- What steps on a file leave of its slots.
-use Rattle.std.proofs.Common.{◌≡◌, ◌≢◌, ℕ, zero, suc, ◌+◌, ◌-◌, ◌*◌, ◌<◌, ◌≤◌, ◌⊎◌, inl, inr, ⊎_elim, Bool, true, false, ◌&&◌, ◌==◌, nat_lt, eqb-true, eq-eqb, ltb-true, lt-ltb, List, [], ◌∷◌, ◌++◌, length, take, drop, min, max, refl, sym, ◌∙◌, ap, subst, arith, Option, Some, All, get_or, slice_get, append_assoc, length-append, length-take, length-drop, length-take-le, take-append-drop}
-use Rattle.std.proofs.lemmas.Bool.{and_parts, and_from, cases_lt, cases_eq, false≢true}
+use Rattle.std.proofs.Common.{◌≡◌, ◌≢◌, ℕ, zero, suc, ◌+◌, ◌-◌, ◌*◌, ◌<◌, ◌≤◌, ◌⊎◌, inl, inr, ⊎_elim, true, false, ◌==◌, nat_lt, eqb-true, eq-eqb, ltb-true, lt-ltb, List, [], ◌∷◌, ◌++◌, length, take, drop, refl, sym, ◌∙◌, ap, arith, Some, All, get_or, slice_get, append_assoc, length-append, length-take, length-drop, length-take-le, take-append-drop}
+use Rattle.std.proofs.lemmas.Bool.{and_parts, and_from, cases_eq}
 use Rattle.std.proofs.lemmas.List.{take_at, drop_at, drop_more, take_all, drop-drop, take-take, ext_get_or, get_or-take, get_or-drop, append-nil}
 use Rattle.std.proofs.lemmas.Option.{slice_get_within, get_or_from_slice_get}
 use Rattle.std.proofs.lemmas.List.Elements.{All-nil, All-cons, All-head, All-tail, All-push}
 use Rattle.nego_io.specs.Disks.{overwritten, Torn, Ragged}
-use Rattle.agent_journal.specs.Slots.{begins_kept, records_within, kept, Closes}
+use Rattle.agent_journal.specs.Slots.{begins_kept, records_within, Closes}
 
 -- slots with open gates and these records
 abbrev pub open_slots : List (List ℕ) → List ℕ
@@ -104,8 +104,9 @@ pub parts : (most : ℕ) (file : List ℕ) → Parts most file
 parts zero file = parts-none zero file (within-zero file)
 parts (suc most) file =
     elim (begins_kept file) as (λ b. begins_kept file ≡ b → Parts (suc most) file) [
-      true ↦ λ some. parts-some most file some (parts most (drop 128 file))
-    | false ↦ λ none. parts-none (suc most) file (within-none (suc most) file none) ] refl
+      | true ↦ λ some. parts-some most file some (parts most (drop 128 file))
+      | false ↦ λ none. parts-none (suc most) file (within-none (suc most) file none)
+    ] refl
 
 -- Slots of records, and a rest that keeps nothing more.
 pub joined : (most : ℕ) (rs : List (List ℕ)) (rest : List ℕ) → All IsWhole rs → length rs ≤ most → (rs ≡ []) ⊎ (0 < length rest) →
@@ -119,15 +120,15 @@ joined (suc most) (r ∷ rs) rest whole few behind =
     let file : List ℕ = 1 ∷ (r ++ more) in
     let is : 1 ∷ ((r ++ open_slots rs) ++ rest) ≡ file = ap (λ (xs : List ℕ). 1 ∷ xs) (append_assoc r (open_slots rs) rest) in
     let long : 128 < length file =
-        omega (arith, here, there, length-append r more, length-append (open_slots rs) rest) in
+    omega (arith, here, there, length-append r more, length-append (open_slots rs) rest) in
     let some : begins_kept file ≡ true = begins-from file refl long in
     let same : suc most - length (r ∷ rs) ≡ most - length rs = omega arith in
     ap (λ (xs : List ℕ). records_within (suc most) xs) is
     ∙ (within-some most file some
-       ∙ (ap (λ (x : List ℕ). x ∷ records_within most (drop 127 (r ++ more))) (take_at r more 127 here)
-          ∙ (ap (λ (xs : List ℕ). r ∷ records_within most xs) (drop_at r more 127 here)
-             ∙ (ap (λ (xs : List (List ℕ)). r ∷ xs) (joined most rs rest (All-tail IsWhole r rs whole) (omega (arith, few)) (inr there))
-                ∙ ap (λ (n : ℕ). r ∷ (rs ++ records_within n rest)) (sym same)))))
+    ∙ (ap (λ (x : List ℕ). x ∷ records_within most (drop 127 (r ++ more))) (take_at r more 127 here)
+    ∙ (ap (λ (xs : List ℕ). r ∷ records_within most xs) (drop_at r more 127 here)
+    ∙ (ap (λ (xs : List (List ℕ)). r ∷ xs) (joined most rs rest (All-tail IsWhole r rs whole) (omega (arith, few)) (inr there))
+    ∙ ap (λ (n : ℕ). r ∷ (rs ++ records_within n rest)) (sym same)))))
 
 -- a gate that is closed already
 pub closes-already : (at : ℕ) (file found : List ℕ) (n : ℕ) → take n found ≡ take (length found) (drop at file) → n ≢ 0 → n ≤ length found → get_or found 0 0 ≡ 0 → Closes at file file
@@ -141,6 +142,7 @@ closes-already at file found n is some within closed = record {
     first-taken zero (x ∷ xs) rest is some within closed = absurd (some refl)
     first-taken (suc n) (x ∷ xs) [] is some within closed = absurd (cc is)
     first-taken (suc n) (x ∷ xs) (y ∷ ys) is some within closed = let same : x ≡ y = ap (λ (l : List ℕ). get_or l 0 0) is in ap (λ (z : ℕ). Some z) (sym same ∙ closed)
+
     get-dropped : (at : ℕ) (file : List ℕ) → slice_get (drop at file) 0 ≡ Some 0 → slice_get file at ≡ Some 0
     get-dropped zero file h = h
     get-dropped (suc at) [] h = h
@@ -152,10 +154,10 @@ rest-ends zero rest other none same short = within-zero other
 rest-ends (suc most) rest other none same short =
     within-none (suc most) other
     (elim (begins_kept other) as (λ b. (b ≡ true → ⊥) → b ≡ false) [ true ↦ λ h. absurd (h refl) | false ↦ λ h. refl ]
-     (λ some.
-         let p = begins-parts other some in
-         let begins : begins_kept rest ≡ true = begins-from rest (sym same ∙ p.0) (omega (arith, p.1, short)) in
-         cc (sym (within-some most rest begins) ∙ none)))
+    (λ some.
+    let p = begins-parts other some in
+    let begins : begins_kept rest ≡ true = begins-from rest (sym same ∙ p.0) (omega (arith, p.1, short)) in
+    cc (sym (within-some most rest begins) ∙ none)))
 
 module _ (most : ℕ) (file : List ℕ) (p : Parts most file) where
   -- where the rest begins
@@ -189,17 +191,17 @@ module _ (most : ℕ) (file : List ℕ) (p : Parts most file) where
       let m : ℕ = 128 * length p.recs in
       let shorter : m ≤ m + 1 = omega arith in
       let front : take m image ≡ open_slots p.recs =
-          sym (take-take m (m + 1) image shorter) ∙ (ap (λ (xs : List ℕ). take m xs) ragged.front ∙ (take-take m (m + 1) file shorter ∙ front-file)) in
+      sym (take-take m (m + 1) image shorter) ∙ (ap (λ (xs : List ℕ). take m xs) ragged.front ∙ (take-take m (m + 1) file shorter ∙ front-file)) in
       let gate : get_or (drop m image) 0 0 ≡ get_or p.rest 0 0 =
-          get_or-drop m image 0 0
-          ∙ (sym (get_or-take (m + 1) image (m + 0) 0 (omega arith))
-             ∙ (ap (λ (xs : List ℕ). get_or xs (m + 0) 0) ragged.front
-                ∙ (get_or-take (m + 1) file (m + 0) 0 (omega arith) ∙ (sym (get_or-drop m file 0 0) ∙ ap (λ (xs : List ℕ). get_or xs 0 0) back-file)))) in
+      get_or-drop m image 0 0
+      ∙ (sym (get_or-take (m + 1) image (m + 0) 0 (omega arith))
+      ∙ (ap (λ (xs : List ℕ). get_or xs (m + 0) 0) ragged.front
+      ∙ (get_or-take (m + 1) file (m + 0) 0 (omega arith) ∙ (sym (get_or-drop m file 0 0) ∙ ap (λ (xs : List ℕ). get_or xs 0 0) back-file)))) in
       let short : length (drop m image) ≤ length p.rest = omega (arith, length-drop m image, length-file, ragged.no_longer) in
       keeps-same image front
       (⊎_elim (λ none. inl none) (λ there. inr (
-           let both = sym (length-take (m + 1) image) ∙ (ap (λ (xs : List ℕ). length xs) ragged.front ∙ length-take (m + 1) file) in
-           omega (arith, both, there, length-file, length-drop m image))) p.behind)
+      let both = sym (length-take (m + 1) image) ∙ (ap (λ (xs : List ℕ). length xs) ragged.front ∙ length-take (m + 1) file) in
+      omega (arith, both, there, length-file, length-drop m image))) p.behind)
       (rest-ends (most - length p.recs) p.rest (drop m image) p.ends gate short)
 
 -- a write changes nothing before it
@@ -209,8 +211,8 @@ torn-front at count m before image torn below within =
     let of_before : length (take m before) ≡ m = length-take-le m before within in
     ext_get_or 0 (take m image) (take m before) (of_image ∙ sym of_before)
     (λ k there.
-        let less : k < m = omega (arith, there, of_image) in
-        get_or-take m image k 0 less ∙ (torn.stays k (omega (arith, less, within)) (inl (omega (arith, less, below))) ∙ sym (get_or-take m before k 0 less)))
+    let less : k < m = omega (arith, there, of_image) in
+    get_or-take m image k 0 less ∙ (torn.stays k (omega (arith, less, within)) (inl (omega (arith, less, below))) ∙ sym (get_or-take m before k 0 less)))
 
 -- nor behind it
 pub torn-back : (at count : ℕ) (before image : List ℕ) → Torn at count before image → at + count ≤ length before → drop (at + count) image ≡ drop (at + count) before
@@ -219,8 +221,8 @@ torn-back at count before image torn within =
     ext_get_or 0 (drop (at + count) image) (drop (at + count) before)
     (length-drop (at + count) image ∙ (ap (λ (n : ℕ). n - (at + count)) same ∙ sym (length-drop (at + count) before)))
     (λ k there.
-        let within : at + count + k < length before = omega (arith, there, length-drop (at + count) image, same) in
-        get_or-drop (at + count) image k 0 ∙ (torn.stays (at + count + k) within (inr (omega arith)) ∙ sym (get_or-drop (at + count) before k 0)))
+    let within : at + count + k < length before = omega (arith, there, length-drop (at + count) image, same) in
+    get_or-drop (at + count) image k 0 ∙ (torn.stays (at + count + k) within (inr (omega arith)) ∙ sym (get_or-drop (at + count) before k 0)))
 
 -- a file of slots and a closed gate, or of slots alone, whose next gate is being closed
 pub torn-short : (most : ℕ) (file : List ℕ) (p : Parts most file) (image : List ℕ) → length file ≤ 128 * length p.recs + 1 → Torn (128 * length p.recs) 1 file image → records_within most image ≡ records_within most file
@@ -239,8 +241,8 @@ torn-behind most file p count image closed torn =
     let there : m < length file = slice_get_within file m 0 closed in
     let is_zero : get_or file m 0 ≡ 0 = get_or_from_slice_get file m 0 0 closed in
     let gate : get_or (drop m image) 0 0 ≡ 0 =
-        get_or-drop m image 0 0
-        ∙ (let place : m + 0 ≡ m = omega arith in ap (λ (k : ℕ). get_or image k 0) place ∙ (torn.stays m there (inl (omega arith)) ∙ is_zero)) in
+    get_or-drop m image 0 0
+    ∙ (let place : m + 0 ≡ m = omega arith in ap (λ (k : ℕ). get_or image k 0) place ∙ (torn.stays m there (inl (omega arith)) ∙ is_zero)) in
     keeps-same most file p image
     (torn-front (m + 1) count m file image torn (omega arith) (omega (arith, there)) ∙ front-file most file p)
     (inr (omega (arith, there, torn.no_shorter, length-drop m image)))
@@ -271,8 +273,8 @@ module _ (most : ℕ) (rs : List (List ℕ)) (r back : List ℕ) (whole : All Is
       let all : All IsWhole (rs ++ r ∷ []) = All-push IsWhole rs r whole here in
       ap (λ (xs : List ℕ). records_within most xs) (sym (open_slots-push rs r (0 ∷ back)))
       ∙ (joined most (rs ++ r ∷ []) (0 ∷ back) all (omega (arith, few, length-append rs (r ∷ []))) (inr (omega arith))
-         ∙ (ap (λ (more : List (List ℕ)). (rs ++ r ∷ []) ++ more) (within-none (most - length (rs ++ r ∷ [])) (0 ∷ back) (begins-not (0 ∷ back) (inl (λ e. absurd (omega (arith, e))))))
-            ∙ append-nil (rs ++ r ∷ [])))
+      ∙ (ap (λ (more : List (List ℕ)). (rs ++ r ∷ []) ++ more) (within-none (most - length (rs ++ r ∷ [])) (0 ∷ back) (begins-not (0 ∷ back) (inl (λ e. absurd (omega (arith, e))))))
+      ∙ append-nil (rs ++ r ∷ [])))
 
   -- and else it doesn't
   pub gated-shut : (gate : ℕ) → gate ≢ 1 → records_within most (gated rs gate r back) ≡ rs
@@ -291,24 +293,25 @@ module _ (most : ℕ) (rs : List (List ℕ)) (r back : List ℕ) (whole : All Is
       let long : m + 1 ≤ length file = omega (arith, length-append (open_slots rs) (0 ∷ (r ++ 0 ∷ back)), place-gate) in
       let behind : length (drop m image) ≡ length image - m = length-drop m image in
       let front : take m image ≡ open_slots rs =
-          torn-front m 1 m file image torn (omega arith) (omega (arith, long)) ∙ take_at (open_slots rs) (0 ∷ (r ++ 0 ∷ back)) m place-gate in
+      torn-front m 1 m file image torn (omega arith) (omega (arith, long)) ∙ take_at (open_slots rs) (0 ∷ (r ++ 0 ∷ back)) m place-gate in
       let rest : drop (m + 1) image ≡ r ++ 0 ∷ back =
-          torn-back m 1 file image torn long
-          ∙ (sym (drop-drop 1 m file) ∙ ap (λ (xs : List ℕ). drop 1 xs) (drop_at (open_slots rs) (0 ∷ (r ++ 0 ∷ back)) m place-gate)) in
+      torn-back m 1 file image torn long
+      ∙ (sym (drop-drop 1 m file) ∙ ap (λ (xs : List ℕ). drop 1 xs) (drop_at (open_slots rs) (0 ∷ (r ++ 0 ∷ back)) m place-gate)) in
       let gate : drop m image ≡ get_or image m 0 ∷ drop (m + 1) image = drop_more image m 0 (omega (arith, long, torn.no_shorter)) in
       let is : image ≡ gated rs (get_or image m 0) r back =
-          sym (take-append-drop m image)
-          ∙ (ap (λ (xs : List ℕ). xs ++ drop m image) front
-             ∙ (ap (λ (xs : List ℕ). open_slots rs ++ xs) gate ∙ ap (λ (xs : List ℕ). open_slots rs ++ get_or image m 0 ∷ xs) rest)) in
+      sym (take-append-drop m image)
+      ∙ (ap (λ (xs : List ℕ). xs ++ drop m image) front
+      ∙ (ap (λ (xs : List ℕ). open_slots rs ++ xs) gate ∙ ap (λ (xs : List ℕ). open_slots rs ++ get_or image m 0 ∷ xs) rest)) in
       elim (cases_eq (get_or image m 0) 1) [
-        inl one ↦ inr (ap (λ (xs : List ℕ). records_within most xs) (is ∙ ap (λ (n : ℕ). gated rs n r back) one) ∙ gated-open)
-      | inr shut ↦ inl (ap (λ (xs : List ℕ). records_within most xs) is ∙ gated-shut (get_or image m 0) shut) ]
+        | inl one ↦ inr (ap (λ (xs : List ℕ). records_within most xs) (is ∙ ap (λ (n : ℕ). gated rs n r back) one) ∙ gated-open)
+        | inr shut ↦ inl (ap (λ (xs : List ℕ). records_within most xs) is ∙ gated-shut (get_or image m 0) shut)
+      ]
 
   -- the next gate is closed
   pub gated-next : slice_get (gated rs 1 r back) (128 * (length rs + 1)) ≡ Some 0
   gated-next =
       let place : length (open_slots (rs ++ r ∷ [])) ≡ 128 * (length rs + 1) =
-          length-open_slots (rs ++ r ∷ []) (All-push IsWhole rs r whole here) ∙ ap (λ (n : ℕ). 128 * n) (length-append rs (r ∷ [])) in
+      length-open_slots (rs ++ r ∷ []) (All-push IsWhole rs r whole here) ∙ ap (λ (n : ℕ). 128 * n) (length-append rs (r ∷ [])) in
       ap (λ (xs : List ℕ). slice_get xs (128 * (length rs + 1))) (sym (open_slots-push rs r (0 ∷ back)))
       ∙ slice_get_at (open_slots (rs ++ r ∷ [])) 0 back (128 * (length rs + 1)) place
 
@@ -320,7 +323,7 @@ written-record rs rest r file whole here is =
     let back : List ℕ = drop (m + 1 + length (r ++ 0 ∷ [])) file in
     let place : length (open_slots rs ++ 0 ∷ []) ≡ m + 1 = omega (arith, length-append (open_slots rs) (0 ∷ []), length-open_slots rs whole) in
     let front : take (m + 1) file ≡ open_slots rs ++ 0 ∷ [] =
-        ap (λ (xs : List ℕ). take (m + 1) xs) (is ∙ sym (append_assoc (open_slots rs) (0 ∷ []) rest)) ∙ take_at (open_slots rs ++ 0 ∷ []) rest (m + 1) place in
+    ap (λ (xs : List ℕ). take (m + 1) xs) (is ∙ sym (append_assoc (open_slots rs) (0 ∷ []) rest)) ∙ take_at (open_slots rs ++ 0 ∷ []) rest (m + 1) place in
     ap (λ (xs : List ℕ). xs ++ ((r ++ 0 ∷ []) ++ back)) front
     ∙ (append_assoc (open_slots rs) (0 ∷ []) ((r ++ 0 ∷ []) ++ back) ∙ ap (λ (xs : List ℕ). open_slots rs ++ 0 ∷ xs) (append_assoc r (0 ∷ []) back))
 

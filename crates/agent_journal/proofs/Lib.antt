@@ -3,3 +3,4 @@ pub mod FileLaws
 pub mod LoadLaws
 pub mod PutCalls
 pub mod PutLaws
+pub mod RepairCalls

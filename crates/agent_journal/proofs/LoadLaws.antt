@@ -1,5 +1,5 @@
 -- Records are read of a disk, one after another.
-use Rattle.std.proofs.Common.{◌≡◌, ℕ, zero, suc, ◌+◌, ◌-◌, ◌*◌, ◌<◌, ◌≤◌, IsTrue, true, false, List, [], ◌∷◌, ◌++◌, length, map, take, drop, refl, sym, ◌∙◌, ap, subst, arith, All, append_assoc, length-append, Some, None}
+use Rattle.std.proofs.Common.{◌≡◌, ℕ, suc, ◌+◌, ◌-◌, ◌*◌, ◌<◌, ◌≤◌, IsTrue, true, false, List, [], ◌∷◌, ◌++◌, length, map, take, drop, refl, sym, ◌∙◌, ap, subst, arith, All, append_assoc, length-append, Some, None}
 use Rattle.std.proofs.lemmas.List.{append-nil, map-append, drop-drop, length-map}
 use Rattle.std.proofs.lemmas.List.Elements.{All-nil, All-push}
 use Rattle.nego_io.specs.Disks.{ToldDisks, IsRead}
@@ -36,19 +36,19 @@ read-more file k records r are few some spells =
     let more : 10000 - k ≡ suc (10000 - (k + 1)) = omega (arith, few) in
     let place : drop 128 rest ≡ drop (128 * (k + 1)) file = drop-drop 128 (128 * k) file ∙ (let e : 128 * k + 128 ≡ 128 * (k + 1) = omega arith in ap (λ (n : ℕ). drop n file) e) in
     let split : records_within (10000 - k) rest ≡ entry_bytes (entry r) ∷ records_within (10000 - (k + 1)) (drop (128 * (k + 1)) file) =
-        ap (λ (n : ℕ). records_within n rest) more
-        ∙ (within-some (10000 - (k + 1)) rest some
-           ∙ (ap (λ (x : List ℕ). x ∷ records_within (10000 - (k + 1)) (drop 128 rest)) spells.same
-              ∙ ap (λ (xs : List ℕ). entry_bytes (entry r) ∷ records_within (10000 - (k + 1)) xs) place)) in
+    ap (λ (n : ℕ). records_within n rest) more
+    ∙ (within-some (10000 - (k + 1)) rest some
+    ∙ (ap (λ (x : List ℕ). x ∷ records_within (10000 - (k + 1)) (drop 128 rest)) spells.same
+    ∙ ap (λ (xs : List ℕ). entry_bytes (entry r) ∷ records_within (10000 - (k + 1)) xs) place)) in
     let all : entries (records ++ r ∷ []) ≡ entries records ++ entry r ∷ [] = map-append entry records (r ∷ []) in
     record {
       fit = subst (λ (es : List Entry). All EntryFits es) (sym all) (All-push EntryFits (entries records) (entry r) are.fit spells.fits);
       split =
           are.split
           ∙ (ap (λ (xs : List (List ℕ)). map entry_bytes (entries records) ++ xs) split
-             ∙ (sym (append_assoc (map entry_bytes (entries records)) (entry_bytes (entry r) ∷ []) (records_within (10000 - (k + 1)) (drop (128 * (k + 1)) file)))
-                ∙ ap (λ (xs : List (List ℕ)). xs ++ records_within (10000 - (k + 1)) (drop (128 * (k + 1)) file))
-                  (sym (ap (λ (es : List Entry). map entry_bytes es) all ∙ map-append entry_bytes (entries records) (entry r ∷ [])))));
+          ∙ (sym (append_assoc (map entry_bytes (entries records)) (entry_bytes (entry r) ∷ []) (records_within (10000 - (k + 1)) (drop (128 * (k + 1)) file)))
+          ∙ ap (λ (xs : List (List ℕ)). xs ++ records_within (10000 - (k + 1)) (drop (128 * (k + 1)) file))
+          (sym (ap (λ (es : List Entry). map entry_bytes es) all ∙ map-append entry_bytes (entries records) (entry r ∷ [])))));
     }
 
 -- the first slot that doesn't count ends the records

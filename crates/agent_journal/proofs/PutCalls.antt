@@ -24,7 +24,7 @@ module _ (a b : ToldDisks) (i count : ℕ) (e : Entry) (calls : AreCallsOn i a b
   content-record slot at whole is spelled has told =
       has told
       ∙ (ap (λ (n : ℕ). overwritten n slot (a.content i)) is
-         ∙ (ap (λ (xs : List ℕ). overwritten (128 * count + 1) xs (a.content i)) spelled ∙ put-written (a.content i) count (entry_bytes e) (ready told) whole))
+      ∙ (ap (λ (xs : List ℕ). overwritten (128 * count + 1) xs (a.content i)) spelled ∙ put-written (a.content i) count (entry_bytes e) (ready told) whole))
 
   pub place-gate-now : HasContent b i (with_gate 0 (a.content i) count e) → (at : ℕ) → at ≡ 128 * count → IsTrue b.telling → at ≤ length (b.content i)
   place-gate-now has at is told =
@@ -43,7 +43,7 @@ module _ (a b : ToldDisks) (i count : ℕ) (e : Entry) (calls : AreCallsOn i a b
         let told_b = more.told told in
         now told
         ∙ (ap (λ (n : ℕ). overwritten n (1 ∷ []) (b.content i)) is
-           ∙ (ap (λ (xs : List ℕ). overwritten (128 * count) (1 ∷ []) xs) (has told_b) ∙ put-opened (a.content i) count (entry_bytes e) (ready told_b)))
+        ∙ (ap (λ (xs : List ℕ). overwritten (128 * count) (1 ∷ []) xs) (has told_b) ∙ put-opened (a.content i) count (entry_bytes e) (ready told_b)))
 
     pub settled-gate : HasContent c i (overwritten at (1 ∷ []) (b.content i)) → IsSynced c i → IsSettled c i (count + 1)
     settled-gate now synced = record {
@@ -51,7 +51,7 @@ module _ (a b : ToldDisks) (i count : ℕ) (e : Entry) (calls : AreCallsOn i a b
       all = λ told.
           ap (λ (file : List ℕ). length (kept file)) (content-gate now told)
           ∙ (ap (λ (rs : List (List ℕ)). length rs) (put-kept (a.content i) count (entry_bytes e) (ready (more.told told)) whole few)
-             ∙ (length-append (kept (a.content i)) (entry_bytes e ∷ []) ∙ ap (λ (n : ℕ). n + 1) (settled.all (calls.told (more.told told)))));
+          ∙ (length-append (kept (a.content i)) (entry_bytes e ∷ []) ∙ ap (λ (n : ℕ). n + 1) (settled.all (calls.told (more.told told)))));
       closed = λ told.
           subst (λ (file : List ℕ). IsClosed (count + 1) file) (sym (content-gate now told))
           (put-closed (a.content i) count (entry_bytes e) (ready (more.told told)) whole few);

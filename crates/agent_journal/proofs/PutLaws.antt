@@ -1,9 +1,9 @@
 -- A record is put behind those that a file keeps.
-use Rattle.std.proofs.Common.{◌≡◌, ◌≢◌, ℕ, zero, suc, ◌+◌, ◌*◌, ◌<◌, ◌≤◌, ◌⊎◌, inl, inr, ⊎_elim, List, [], ◌∷◌, ◌++◌, length, take, drop, refl, sym, ◌∙◌, ap, subst, arith, Some, All, slice_get, length-append, Result, Ok, Err, OnOk}
+use Rattle.std.proofs.Common.{◌≡◌, ℕ, zero, suc, ◌+◌, ◌*◌, ◌<◌, ◌≤◌, ◌⊎◌, List, [], ◌∷◌, ◌++◌, length, drop, sym, ◌∙◌, ap, subst, arith, Some, All, slice_get, length-append, Result, Ok, Err, OnOk}
 use Rattle.std.proofs.lemmas.Option.{same_Some}
 use Rattle.nego_io.specs.Disks.{overwritten, Torn}
 use Rattle.agent_journal.specs.Slots.{kept, IsClosed}
-use Rattle.agent_journal.proofs.FileLaws.{open_slots, IsWhole, Parts, parts, torn-behind, torn-gate, gated, gated-open, gated-next, written-record, written-gate, length-open_slots}
+use Rattle.agent_journal.proofs.FileLaws.{open_slots, IsWhole, parts, torn-behind, torn-gate, gated, gated-open, gated-next, written-record, written-gate, length-open_slots}
 
 -- A file that keeps so many records, and then has a closed gate.
 pub record IsOpenEnded (file : List ℕ) (count : ℕ) : Type 0 where

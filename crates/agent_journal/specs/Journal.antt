@@ -6,7 +6,7 @@ use Rattle.agent_msg.specs.Records.{Entry}
 use Rattle.agent_msg.specs.Bytes.{entry_bytes}
 use Rattle.agent_journal.specs.declared.fault.JournalFault.{JournalFault}
 use Rattle.agent_journal.specs.declared.fault.JournalFault.TheVariants.{DiskFault, Full, BadRecord, MustReload, Memory}
-use Rattle.agent_journal.specs.Slots.{kept, StandsFor, IsClosed, IsFirstBad, IsBadFirst}
+use Rattle.agent_journal.specs.Slots.{kept, IsClosed, IsFirstBad, IsBadFirst}
 
 -- A journal: how many records it has, and whether it has to be loaded again.
 pub record JournalState : Type 0 where
@@ -28,6 +28,10 @@ pub record KeepsSome (d : ToldDisks) (i : ℕ) (image : List ℕ) : Type 0 where
   pub before : List ℕ
   pub left : LeavesNow d i before
   pub same : kept image ≡ kept before
+
+-- The file keeps these records.
+abbrev pub KeepsAll : List (List ℕ) → List ℕ → Type 0
+KeepsAll records file = kept file ≡ records
 
 -- The file keeps these records, or these and one more.
 abbrev pub KeepsOrAdds : List (List ℕ) → Entry → List ℕ → Type 0

@@ -1,5 +1,5 @@
 -- Files as slots: a gate, the 127 bytes of a record, and so on.
-use Rattle.std.specs.Prelude.{◌≡◌, ℕ, zero, suc, ◌*◌, ◌<◌, Bool, true, false, ◌&&◌, ◌==◌, nat_lt, if◌then◌else◌, List, [], ◌∷◌, ◌++◌, length, map, take, drop, slice_index, slice_get, Option, Some, None, All}
+use Rattle.std.specs.Prelude.{◌≡◌, ℕ, zero, suc, ◌*◌, Bool, true, false, ◌&&◌, ◌==◌, nat_lt, if◌then◌else◌, List, [], ◌∷◌, ◌++◌, length, map, take, drop, slice_index, slice_get, Option, Some, None, All}
 use Rattle.nego_io.specs.Disks.{Torn}
 use Rattle.agent_msg.specs.declared.record.Record.{Record}
 use Rattle.agent_msg.specs.Records.{Entry, entry}

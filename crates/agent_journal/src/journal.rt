@@ -7,7 +7,7 @@ ghost use Rattle.agent_journal.specs.Slots.{kept, StandsFor};
 ghost use Rattle.agent_journal.specs.Journal.{IsSettled, IsReady, KeepsSome, KeepsOrAdds, BeginsWith, LoadFails, AppendFails, after_append};
 
 use crate::JournalFault;
-use crate::slots::{MOST, close, gate, put, read_records, shorten};
+use crate::slots::{MOST, put, read_records, repair};
 use agent_msg::Record;
 use nego_base::Seq;
 use nego_io::Disks;
@@ -53,8 +53,7 @@ impl Journal {
         disks.sync(i)?;
         let records = read_records(alloc, disks, i)?;
         let count = records.len() as u32;
-        shorten(disks, i, gate(count) + 1)?;
-        close(disks, i, gate(count))?;
+        repair(disks, i, count)?;
         let journal = Journal {
             count,
             failed: false,

@@ -5,7 +5,7 @@ ghost use Rattle.nego_io.specs.Disks.{LeavesOnly, Follows, AreCallsOn, HasConten
 ghost use Rattle.agent_msg.specs.Records.{entry, entries, IsTidy};
 ghost use Rattle.agent_msg.specs.Bytes.{EntryFits, entry_bytes};
 ghost use Rattle.agent_journal.specs.Slots.{kept, StandsFor, Closes, SaysFirst};
-ghost use Rattle.agent_journal.specs.Journal.{IsSettled, KeepsOrAdds, LoadFails, SlotFails};
+ghost use Rattle.agent_journal.specs.Journal.{IsSettled, KeepsAll, KeepsOrAdds, LoadFails, SlotFails};
 
 use crate::JournalFault;
 use agent_msg::{Record, read_record, write_record};
@@ -22,7 +22,7 @@ const OPEN: u8 = 1;
 const CLOSED: u8 = 0;
 
 /// The place of a slot's gate.
-pub fn gate(k: u32) -> u64
+fn gate(k: u32) -> u64
     requires { k ≤ 10000 }
     ensures { result ≡ 128 * k }
 {
@@ -73,7 +73,7 @@ pub fn read_records<D: Disks>(
 }
 
 /// Cuts a disk to a length where it is longer.
-pub fn shorten<D: Disks>(disks: &mut D, i: u32, to: u64) -> Result<(), Failed>
+fn shorten<D: Disks>(disks: &mut D, i: u32, to: u64) -> Result<(), Failed>
     requires disk { i < (D.told disks.old).disks }
     requires synced { IsSynced (D.told disks.old) i }
     ensures images { LeavesOnly (Ragged to ((D.told disks.old).content i)) i (D.told disks.old) (D.told disks.new) }
@@ -105,7 +105,7 @@ fn write_through<D: Disks>(disks: &mut D, i: u32, at: u64, piece: &[u8]) -> Resu
 }
 
 /// Closes the gate at a place where it isn't closed.
-pub fn close<D: Disks>(disks: &mut D, i: u32, at: u64) -> Result<(), Failed>
+fn close<D: Disks>(disks: &mut D, i: u32, at: u64) -> Result<(), Failed>
     requires disk { i < (D.told disks.old).disks }
     requires synced { IsSynced (D.told disks.old) i }
     requires within { IsTrue (D.told disks.old).telling → at ≤ length ((D.told disks.old).content i) }
@@ -121,6 +121,22 @@ pub fn close<D: Disks>(disks: &mut D, i: u32, at: u64) -> Result<(), Failed>
         return write_through(disks, i, at, &[CLOSED]);
     }
     Ok(())
+}
+
+/// Cuts off what stands behind so many records that count, and closes the gate behind them.
+pub fn repair<D: Disks>(disks: &mut D, i: u32, count: u32) -> Result<(), Failed>
+    requires disk { i < (D.told disks.old).disks }
+    requires place { count ≤ 10000 }
+    requires synced { IsSynced (D.told disks.old) i }
+    requires all { IsTrue (D.told disks.old).telling → length (kept ((D.told disks.old).content i)) ≡ count }
+    ensures images { LeavesOnly (KeepsAll (kept ((D.told disks.old).content i))) i (D.told disks.old) (D.told disks.new) }
+    ensures kept { OnOk result (IsTrue (D.told disks.new).telling → kept ((D.told disks.new).content i) ≡ kept ((D.told disks.old).content i)) }
+    ensures settled { OnOk result (IsSettled (D.told disks.new) i count) }
+    ensures calls { AreCallsOn i (D.told disks.old) (D.told disks.new) }
+    ensures fault { OnErr result (Rose ((D.told disks.old).faults i) ((D.told disks.new).faults i)) }
+{
+    shorten(disks, i, gate(count) + 1)?;
+    close(disks, i, gate(count))
 }
 
 /// A record with a closed gate behind it.

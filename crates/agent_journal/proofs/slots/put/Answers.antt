@@ -1,4 +1,4 @@
-use Rattle.std.proofs.Common.{◌≡◌, ℕ, ◌+◌, ap, sym, ◌∙◌}
+use Rattle.std.proofs.Common.{ℕ, ◌+◌, ap}
 use Rattle.nego_io.proofs.CallLaws.{calls-then, leaves-then}
 use Rattle.agent_msg.specs.Records.{entry}
 use Rattle.agent_journal.specs.Slots.{kept}

@@ -1,4 +1,4 @@
-use Rattle.std.proofs.Common.{◌≡◌, IsTrue, List, ℕ, drop, ◌*◌, subst, Option, Some, None, IfSome, sym}
+use Rattle.std.proofs.Common.{drop, ◌*◌, subst, Option, IfSome}
 use Rattle.std.proofs.lemmas.Result.{err_from_is_err_and}
 use Rattle.nego_io.proofs.CallLaws.{read-then}
 use Rattle.agent_msg.specs.declared.record.Record.{Record}
@@ -31,8 +31,8 @@ pub loop-k-preserved : goal.loop-k-preserved
 loop-k-preserved g c =
     rw (c.in_ok-push.ensures.ok)
     (loading-more c.args.i _ (g.D.Disks.told c.loop-k.disks) _ c.loop-k.k c.loop-k.records c.loop-k.invariant c.read_slot.ensures.read c.loop-k-test.true c.in-Some.record
-     (λ told. subst (λ (slot : Option Record). SaysFirst (drop (128 * c.loop-k.k) ((g.D.Disks.told c.loop-k.disks).content c.args.i)) slot) c.in-Some.is (c.in_ok-record.ensures.ok told))
-     (subst (λ (slot : Option Record). IfSome slot IsTidy) c.in-Some.is c.in_ok-record.ensures.tidy))
+    (λ told. subst (λ (slot : Option Record). SaysFirst (drop (128 * c.loop-k.k) ((g.D.Disks.told c.loop-k.disks).content c.args.i)) slot) c.in-Some.is (c.in_ok-record.ensures.ok told))
+    (subst (λ (slot : Option Record). IfSome slot IsTidy) c.in-Some.is c.in_ok-record.ensures.tidy))
 
 pub returns-clause-records : goal.returns-clause-records
 returns-clause-records g c = loading-full c.args.i _ (g.D.Disks.told c.loop-k.disks) c.loop-k.k c.loop-k.records c.loop-k.invariant c.loop-k-test.false
