@@ -7,3 +7,6 @@ mod slots;
 
 pub use fault::JournalFault;
 pub use journal::Journal;
+
+#[cfg(test)]
+mod tests;
