@@ -1,0 +1,10 @@
+pub mod Agents
+pub mod Roomy
+pub mod Views
+pub mod Acts
+pub mod Deciding
+pub mod Worlds
+pub mod Agreement
+pub mod Consistency
+pub mod Loading
+pub mod Finished
