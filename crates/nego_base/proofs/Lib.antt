@@ -4,6 +4,8 @@ pub mod Cases
 pub mod Cuts
 pub mod Firsts
 pub mod GrammarLaws
+pub mod LineDemands
+pub mod LineFaults
 pub mod LineLaws
 pub mod ListLaws
 pub mod Members

@@ -3,6 +3,8 @@ pub mod Bits
 pub mod Firsts
 pub mod Grammar
 pub mod Lends
+pub mod LineGrammar
+pub mod LineWalk
 pub mod Lines
 pub mod Members
 pub mod Name
