@@ -1,5 +1,5 @@
 -- The demands that all grammars make are those by which a line and its words are read.
-use Rattle.std.proofs.Common.{◌≡◌, ℕ, Bool, true, false, cond, List, [], ◌∷◌, length, map, Option, Some, None, Result, Ok, Err, ltb, zero, suc, ◌<◌, take, drop, inl, Decides, refl, sym, ◌∙◌, arith}
+use Rattle.std.proofs.Common.{◌≡◌, ℕ, Bool, true, false, cond, List, [], ◌∷◌, ◌++◌, length, map, Option, Some, None, Result, Ok, Err, ltb, zero, suc, ◌<◌, take, drop, inl, Decides, refl, sym, ◌∙◌, arith}
 use Rattle.std.specs.Prelude.{slice_get}
 use Rattle.std.specs.Option.{option_map_or}
 use Rattle.std.specs.Str.{bytes_eq}
@@ -99,10 +99,18 @@ module _ {X : Type 0} (Is : X → Word → Type 0) (line : Line) where
       answers_then Is line (demand x ∷ []) (map demand xs) (f x) (λ y. each f xs >>= λ ys. Ok (y ∷ ys)) (one x)
       (λ y is. answers_last Is line (map demand xs) (each f xs) (λ ys. y ∷ ys) (each_answers demand f one xs))
 
-  -- the word at a place of a line that is long enough
+  -- the word at a place of a line that is long enough, alone
   pub place_answers : {Y : Type 0} (i : ℕ) (demand : Word → Demand X) (f : Word → Result Y Fault) → i < length line.words → ((word : Word) → Answers Is line (demand word ∷ []) (f word)) →
       Answers Is line (map demand (word_number i line)) (word_in line i >>= f)
   unfolding word_in
   place_answers i demand f within one =
+      let at = word_there line.words i within in
+      rw (at.2, at.1) (one at.0)
+
+  -- the same, where more is asked behind it
+  pub place_then : {Y : Type 0} (i : ℕ) (demand : Word → Demand X) (more : List (Demand X)) (f : Word → Result Y Fault) → i < length line.words → ((word : Word) → Answers Is line (demand word ∷ more) (f word)) →
+      Answers Is line (map demand (word_number i line) ++ more) (word_in line i >>= f)
+  unfolding word_in
+  place_then i demand more f within one =
       let at = word_there line.words i within in
       rw (at.2, at.1) (one at.0)

@@ -1,10 +1,10 @@
 -- Items that are read one after the other.
 use Rattle.std.proofs.Common.{◌≡◌, List, [], ◌∷◌, Result, Ok, refl, subst}
+use Rattle.nego_base.specs.LineWalk.{each}
 use Rattle.nego_base.specs.declared.fault.Fault.{Fault}
 use Rattle.nego_base.specs.Results.{◌>>=◌}
 use Rattle.nego_base.proofs.Cases.{bind_ok, same_Ok}
 use Rattle.nego_reader.specs.Spelling.{Each}
-use Rattle.nego_reader.specs.Reading.{each}
 
 module _ {A B : Type 0} (f : A → Result B Fault) (R : A → B → Type 0) where
   pub each_takes : ((x : A) (y : B) → f x ≡ Ok y → R x y) → (xs : List A) (ys : List B) → each f xs ≡ Ok ys → Each R xs ys

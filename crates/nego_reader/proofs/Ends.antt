@@ -3,6 +3,7 @@ use Rattle.std.proofs.Common.{◌≡◌, Bool, true, false, cond, List, [], ◌�
 use Rattle.std.specs.Prelude.{slice_get, find, codes}
 use Rattle.std.specs.Option.{option_map_or}
 use Rattle.std.specs.Str.{bytes_eq}
+use Rattle.nego_base.specs.LineWalk.{word_in, walk_lines, kind_of_line}
 use Rattle.nego_base.specs.declared.fault.FaultKind.TheVariants as fault_kinds
 use Rattle.nego_base.specs.declared.fault.Fault.{Fault}
 use Rattle.nego_base.specs.declared.line.Word.{Word}
@@ -10,7 +11,7 @@ use Rattle.nego_base.specs.declared.line.Line.{Line}
 use Rattle.nego_base.specs.Grammar.{at_word, past_line, exact_words}
 use Rattle.nego_base.specs.Results.{◌>>=◌}
 use Rattle.nego_reader.specs.Rows.{Kind, Nego, First, Last, End, Row, HeaderRow, FirstRow, LastRow, EndRow, keyword, followers}
-use Rattle.nego_reader.specs.Reading.{word_in, kind_in, header_in, named_in, row_of, walk, line_at, header_at, nothing_at, end_at, last_at, ends_at}
+use Rattle.nego_reader.specs.Reading.{header_in, named_in, row_of, walk, line_at, header_at, nothing_at, end_at, last_at, ends_at}
 use Rattle.nego_reader.specs.Answer.{onto}
 
 -- ---- chains of steps
@@ -38,7 +39,7 @@ by_word kind line lines F G (Some word) same = by_kind kind line lines F G (byte
 
 pub walk_at : (missing : Fault) (kind : Kind) (lines : List Line) →
     walk missing (kind ∷ []) lines ≡ (line_at (keyword kind) missing lines >>= λ x. row_of kind x.0 >>= λ row. onto (row ∷ []) (walk missing (followers kind) x.1))
-unfolding walk line_at kind_in word_in
+unfolding walk_lines line_at kind_of_line word_in
 walk_at missing kind [] = refl
 walk_at missing kind (line ∷ lines) =
     by_word kind line lines (λ k. row_of k line >>= λ row. walk missing (followers k) lines >>= λ rows. Ok (row ∷ rows))
@@ -73,7 +74,7 @@ by_none (Ok first) F G = refl
 by_none (Err fault) F G = refl
 
 nothing_is : (missing : Fault) (lines : List Line) → walk missing [] lines ≡ (nothing_at lines >>= λ _. Ok [])
-unfolding walk nothing_at kind_in
+unfolding walk_lines nothing_at kind_of_line
 nothing_is missing [] = refl
 nothing_is missing (line ∷ lines) = by_none (word_in line 0) (λ k. row_of k line >>= λ row. walk missing (followers k) lines >>= λ rows. Ok (row ∷ rows)) (λ _. Ok [])
 

@@ -1,5 +1,7 @@
 pub mod Built
 pub mod Eaches
+pub mod CaseFaults
+pub mod LineDemands
 pub mod Ends
 pub mod Fitting
 pub mod LineSpelling

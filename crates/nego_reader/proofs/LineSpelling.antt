@@ -13,6 +13,9 @@ use Rattle.std.proofs.lemmas.List.Quantifiers.{position-Some}
 use Rattle.std.proofs.lemmas.List.Sums.{position_or_len_is}
 use Rattle.std.proofs.lemmas.Option.{slice_get_within, slice_get-get_or, same_Some}
 use Rattle.std.proofs.lemmas.Slice.Eq.{bytes_eq-Decides}
+use Rattle.nego_reader.specs.Table.{is_colon}
+use Rattle.nego_base.specs.LineWalk.{each, word_in}
+use Rattle.nego_base.specs.LineGrammar.{IsNameWord}
 use Rattle.nego_base.specs.declared.fault.FaultKind.TheVariants as fault_kinds
 use Rattle.nego_base.specs.declared.fault.Fault.{Fault}
 use Rattle.nego_base.specs.declared.line.Word.{Word}
@@ -27,8 +30,8 @@ use Rattle.nego_reader.specs.declared.parsed.PCase.{PCase}
 use Rattle.nego_reader.specs.declared.parsed.PTest.{PTest}
 use Rattle.nego_reader.specs.declared.parsed.PSet.{PSet}
 use Rattle.nego_reader.specs.Rows.{Kind, Nego, Agent, Atom, Out, Case, Next, First, Last, End, Row, HeaderRow, AgentRow, AtomRow, OutRow, CaseRow, NextRow, FirstRow, LastRow, EndRow, keyword, kind_of}
-use Rattle.nego_reader.specs.Spelling.{Each, IsNameWord, SpellsTest, SpellsSet, Begins, SpellsLine}
-use Rattle.nego_reader.specs.Reading.{each, word_in, name_of, name_in, header_in, agent_in, named_in, names_in, next_in, is_colon, in_case, sides_of, case_in, test_of, set_of, row_of}
+use Rattle.nego_reader.specs.Spelling.{Each, SpellsTest, SpellsSet, Begins, SpellsLine}
+use Rattle.nego_reader.specs.Reading.{name_of, name_in, header_in, agent_in, named_in, names_in, next_in, in_case, sides_of, case_in, test_of, set_of, row_of}
 use Rattle.nego_reader.proofs.Loops.{cut_at}
 use Rattle.nego_reader.proofs.Eaches.{each_takes, each_again}
 use Rattle.nego_reader.proofs.WordSpelling.{guard_ok, in_case_ok, same_bytes, test_takes, test_again, set_takes, set_again, test_no_colon, set_no_colon}
@@ -204,7 +207,7 @@ colon_place front colon rest free there =
     fails_at : (words : List Word) (k : ℕ) → list_any is_colon words ≡ false → k < length words → is_colon (get_or words k colon) ≡ false
     fails_at words k free below = false_from_ne_true _ (λ there. false≢true (sym free ∙ list_any_at is_colon words k colon below there))
 
-sides_ok : (words : List Word) (default : Word) (sides : List Word × List Word) → sides_of words ≡ Some sides → (colon : Word) × (words ≡ sides.0 ++ colon ∷ sides.1) × (colon.text ≡ codes ":")
+pub sides_ok : (words : List Word) (default : Word) (sides : List Word × List Word) → sides_of words ≡ Some sides → (colon : Word) × (words ≡ sides.0 ++ colon ∷ sides.1) × (colon.text ≡ codes ":")
 unfolding sides_of
 sides_ok words default sides h =
     let a = bind_some (position is_colon words) (λ n. cond (list_any is_colon (drop (n + 1) words)) None (Some (take n words, drop (n + 1) words))) sides h in
@@ -218,7 +221,7 @@ sides_ok words default sides h =
     no_other true x y h = absurd cc
     no_other false x y h = same_Some x y h
 
-sides_again : (tests : List Word) (colon : Word) (sets : List Word) → list_any is_colon tests ≡ false → colon.text ≡ codes ":" → list_any is_colon sets ≡ false → sides_of (tests ++ colon ∷ sets) ≡ Some (tests, sets)
+pub sides_again : (tests : List Word) (colon : Word) (sets : List Word) → list_any is_colon tests ≡ false → colon.text ≡ codes ":" → list_any is_colon sets ≡ false → sides_of (tests ++ colon ∷ sets) ≡ Some (tests, sets)
 unfolding sides_of
 sides_again tests colon sets before text after =
     let is : is_colon colon ≡ true = (bytes_eq-Decides colon.text (codes ":")).1 text in
@@ -266,37 +269,50 @@ case_again line c h =
 
 -- ---- lines of all kinds
 
-pub row_takes : (kind : Kind) (line : Line) (first : Word) (row : Row) → word_in line 0 ≡ Ok first → first.text ≡ keyword kind → row_of kind line ≡ Ok row → SpellsLine line row
+pub row_takes : (kind : Kind) (line : Line) (first : Word) (row : Row) → slice_get line.words 0 ≡ Some first → first.text ≡ keyword kind → row_of kind line ≡ Ok row → SpellsLine line row
 unfolding row_of
 row_takes Nego line first row at keyword h =
     let a = bind_ok (header_in line) (λ _. Ok HeaderRow) row h in
-    subst (SpellsLine line) (same_Ok {E = Fault} HeaderRow row a.2) (header_takes line first (word_in_ok line 0 first at) keyword a.1)
+    subst (SpellsLine line) (same_Ok {E = Fault} HeaderRow row a.2) (header_takes line first at keyword a.1)
 row_takes Agent line first row at keyword h =
     let a = bind_ok (agent_in line) (λ agent. Ok (AgentRow agent)) row h in
-    subst (SpellsLine line) (same_Ok {E = Fault} (AgentRow a.0) row a.2) (agent_takes line first a.0 (word_in_ok line 0 first at) keyword a.1)
+    subst (SpellsLine line) (same_Ok {E = Fault} (AgentRow a.0) row a.2) (agent_takes line first a.0 at keyword a.1)
 row_takes Atom line first row at keyword h =
     let a = bind_ok (names_in 2 line) (λ names. Ok (AtomRow names.0 names.1)) row h in
-    let names = names_take 2 (codes "atom") line first a.0 (word_in_ok line 0 first at) keyword a.1 in
+    let names = names_take 2 (codes "atom") line first a.0 at keyword a.1 in
     subst (SpellsLine line) (same_Ok {E = Fault} (AtomRow a.0.0 a.0.1) row a.2) (names.begins, names.named)
 row_takes Out line first row at keyword h =
     let a = bind_ok (named_in line) (λ name. Ok (OutRow name)) row h in
-    subst (SpellsLine line) (same_Ok {E = Fault} (OutRow a.0) row a.2) (named_takes (codes "out") line first a.0 (word_in_ok line 0 first at) keyword a.1)
+    subst (SpellsLine line) (same_Ok {E = Fault} (OutRow a.0) row a.2) (named_takes (codes "out") line first a.0 at keyword a.1)
 row_takes Case line first row at keyword h =
     let a = bind_ok (case_in line) (λ c. Ok (CaseRow c)) row h in
-    subst (SpellsLine line) (same_Ok {E = Fault} (CaseRow a.0) row a.2) (case_takes line first a.0 (word_in_ok line 0 first at) keyword a.1)
+    subst (SpellsLine line) (same_Ok {E = Fault} (CaseRow a.0) row a.2) (case_takes line first a.0 at keyword a.1)
 row_takes Next line first row at keyword h =
     let a = bind_ok (next_in line) (λ next. Ok (NextRow next)) row h in
-    subst (SpellsLine line) (same_Ok {E = Fault} (NextRow a.0) row a.2) (next_takes line first a.0 (word_in_ok line 0 first at) keyword a.1)
+    subst (SpellsLine line) (same_Ok {E = Fault} (NextRow a.0) row a.2) (next_takes line first a.0 at keyword a.1)
 row_takes First line first row at keyword h =
     let a = bind_ok (named_in line) (λ name. Ok (FirstRow name)) row h in
-    subst (SpellsLine line) (same_Ok {E = Fault} (FirstRow a.0) row a.2) (named_takes (codes "first") line first a.0 (word_in_ok line 0 first at) keyword a.1)
+    subst (SpellsLine line) (same_Ok {E = Fault} (FirstRow a.0) row a.2) (named_takes (codes "first") line first a.0 at keyword a.1)
 row_takes Last line first row at keyword h =
     let a = bind_ok (named_in line) (λ name. Ok (LastRow name)) row h in
-    subst (SpellsLine line) (same_Ok {E = Fault} (LastRow a.0) row a.2) (named_takes (codes "last") line first a.0 (word_in_ok line 0 first at) keyword a.1)
+    subst (SpellsLine line) (same_Ok {E = Fault} (LastRow a.0) row a.2) (named_takes (codes "last") line first a.0 at keyword a.1)
 row_takes End line first row at keyword h =
     let a = bind_ok (exact_words 1 line) (λ _. Ok EndRow) row h in
     let one : length line.words ≡ 1 = exact_ok 1 line a.1 in
-    subst (SpellsLine line) (same_Ok {E = Fault} EndRow row a.2) (begins_at line first (codes "end") [] (word_in_ok line 0 first at) keyword (drop_all 1 line.words (omega arith)))
+    subst (SpellsLine line) (same_Ok {E = Fault} EndRow row a.2) (begins_at line first (codes "end") [] at keyword (drop_all 1 line.words (omega arith)))
+
+-- a row is of the kind of its line
+pub row_kind : (kind : Kind) (line : Line) (row : Row) → row_of kind line ≡ Ok row → kind_of row ≡ kind
+unfolding row_of
+row_kind Nego line row h = ap kind_of (sym (same_Ok {E = Fault} _ row (bind_ok (header_in line) (λ _. Ok HeaderRow) row h).2))
+row_kind Agent line row h = let a = bind_ok (agent_in line) (λ agent. Ok (AgentRow agent)) row h in ap kind_of (sym (same_Ok {E = Fault} (AgentRow a.0) row a.2))
+row_kind Atom line row h = let a = bind_ok (names_in 2 line) (λ names. Ok (AtomRow names.0 names.1)) row h in ap kind_of (sym (same_Ok {E = Fault} (AtomRow a.0.0 a.0.1) row a.2))
+row_kind Out line row h = let a = bind_ok (named_in line) (λ name. Ok (OutRow name)) row h in ap kind_of (sym (same_Ok {E = Fault} (OutRow a.0) row a.2))
+row_kind Case line row h = let a = bind_ok (case_in line) (λ c. Ok (CaseRow c)) row h in ap kind_of (sym (same_Ok {E = Fault} (CaseRow a.0) row a.2))
+row_kind Next line row h = let a = bind_ok (next_in line) (λ next. Ok (NextRow next)) row h in ap kind_of (sym (same_Ok {E = Fault} (NextRow a.0) row a.2))
+row_kind First line row h = let a = bind_ok (named_in line) (λ name. Ok (FirstRow name)) row h in ap kind_of (sym (same_Ok {E = Fault} (FirstRow a.0) row a.2))
+row_kind Last line row h = let a = bind_ok (named_in line) (λ name. Ok (LastRow name)) row h in ap kind_of (sym (same_Ok {E = Fault} (LastRow a.0) row a.2))
+row_kind End line row h = ap kind_of (sym (same_Ok {E = Fault} _ row (bind_ok (exact_words 1 line) (λ _. Ok EndRow) row h).2))
 
 pub row_again : (line : Line) (row : Row) → SpellsLine line row → row_of (kind_of row) line ≡ Ok row
 unfolding row_of
@@ -311,10 +327,10 @@ row_again line (LastRow name) h = rw (named_again (codes "last") line name h.0 h
 row_again line EndRow h = rw (exact_words-ok 1 line (ap length h.words)) refl
 
 -- the first word of a line
-pub begins_with : (text : List ℕ) (line : Line) (rest : List Word) → Begins text line rest → (first : Word) × (word_in line 0 ≡ Ok first) × (first.text ≡ text)
-begins_with text line rest h = (h.first, word_in_again line 0 h.first (ap (λ (ws : List Word). slice_get ws 0) h.words), h.keyword)
+pub begins_with : (text : List ℕ) (line : Line) (rest : List Word) → Begins text line rest → (first : Word) × (slice_get line.words 0 ≡ Some first) × (first.text ≡ text)
+begins_with text line rest h = (h.first, ap (λ (ws : List Word). slice_get ws 0) h.words, h.keyword)
 
-pub first_again : (line : Line) (row : Row) → SpellsLine line row → (first : Word) × (word_in line 0 ≡ Ok first) × (first.text ≡ keyword (kind_of row))
+pub first_again : (line : Line) (row : Row) → SpellsLine line row → (first : Word) × (slice_get line.words 0 ≡ Some first) × (first.text ≡ keyword (kind_of row))
 first_again line HeaderRow h = begins_with (codes "nego") line (h.0 ∷ []) h.1
 first_again line (AgentRow agent) h = begins_with (codes "agent") line (agent.name ∷ h.0 ∷ []) h.1
 first_again line (AtomRow name parties) h = begins_with (codes "atom") line (name ∷ parties) h.0

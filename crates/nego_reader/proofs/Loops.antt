@@ -2,10 +2,10 @@
 use Rattle.std.proofs.Common.{◌≡◌, ℕ, ◌+◌, ◌<◌, ◌≤◌, List, [], ◌∷◌, ◌++◌, length, drop, get_or, Result, Ok, Err, refl, sym, ap, subst, ◌∙◌, append_assoc, add-one}
 use Rattle.std.proofs.Math.Seq.{drop-cons}
 use Rattle.std.proofs.lemmas.List.{append-nil, drop_all}
+use Rattle.nego_base.specs.LineWalk.{each}
 use Rattle.nego_base.specs.declared.fault.Fault.{Fault}
 use Rattle.nego_base.specs.declared.fault.ReadFaults.{ReadFaults}
 use Rattle.nego_base.specs.declared.fault.ReadFaults.TheVariants as faults
-use Rattle.nego_reader.specs.Reading.{each}
 use Rattle.nego_reader.specs.Answer.{onto, Fails}
 
 module _ {A : Type 0} where

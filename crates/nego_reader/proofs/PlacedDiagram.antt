@@ -2,6 +2,7 @@
 use Rattle.std.proofs.Common.{◌≡◌, ℕ, ◌+◌, suc, List, [], ◌∷◌, ◌++◌, length, map, All, codes, refl, ap, subst, ◌∙◌, arith}
 use Rattle.std.specs.List.{flat_map}
 use Rattle.std.proofs.lemmas.List.Elements.{All-nil, All-cons, All-head, All-tail}
+use Rattle.nego_base.specs.LineGrammar.{IsNameWord}
 use Rattle.nego_base.specs.declared.line.Word.{Word}
 use Rattle.nego_base.specs.declared.line.Line.{Line}
 use Rattle.nego_base.specs.Printed.{printed_line}
@@ -13,7 +14,7 @@ use Rattle.nego_reader.specs.declared.parsed.PAtom.{PAtom}
 use Rattle.nego_reader.specs.declared.parsed.POut.{POut}
 use Rattle.nego_reader.specs.Content.{texts, agent_content, case_content, next_content, out_content, atom_content, content_of}
 use Rattle.nego_reader.specs.Rows.{Row, HeaderRow, AgentRow, AtomRow, OutRow, CaseRow, NextRow, FirstRow, LastRow, EndRow, out_rows, atom_rows, rows_of}
-use Rattle.nego_reader.specs.Spelling.{Each, IsNameWord, SpellsLine, SpellsDiagram}
+use Rattle.nego_reader.specs.Spelling.{Each, SpellsLine, SpellsDiagram}
 use Rattle.nego_reader.specs.Printing.{row_words}
 use Rattle.nego_reader.proofs.SpelledRows.{IsRow}
 use Rattle.nego_reader.proofs.PrintableRows.{row_printable}

@@ -2,6 +2,7 @@
 use Rattle.std.proofs.Common.{◌≡◌, ℕ, ◌+◌, ◌<◌, ◌≤◌, List, [], ◌∷◌, ◌++◌, length, map, All, codes, decimal, inl, inr, refl, sym, ap, subst, ◌∙◌, arith, append_assoc}
 use Rattle.std.proofs.lemmas.Bool.{cases_eq, cond-true, cond-false, eq-eqb, ne_eqb}
 use Rattle.std.proofs.lemmas.List.Elements.{All-nil, All-cons, All-head, All-tail}
+use Rattle.nego_base.specs.LineGrammar.{IsNameWord}
 use Rattle.nego_base.specs.declared.line.Word.{Word}
 use Rattle.nego_base.specs.declared.line.Line.{Line}
 use Rattle.nego_base.specs.Name.{is_name}
@@ -17,7 +18,7 @@ use Rattle.nego_reader.specs.declared.parsed.PTerm.TheVariants as terms
 use Rattle.nego_reader.specs.Content.{texts, agent_content, right_content, test_content, term_content, set_content, case_content, next_content}
 use Rattle.nego_reader.specs.Rows.{HeaderRow, AgentRow, CaseRow, NextRow, EndRow}
 use Rattle.nego_reader.specs.Reading.{piece}
-use Rattle.nego_reader.specs.Spelling.{Each, IsNameWord, IsInside, op_text, SpellsRight, SpellsTest, SpellsTerm, SpellsSet, Begins, SpellsLine}
+use Rattle.nego_reader.specs.Spelling.{Each, IsInside, op_text, SpellsRight, SpellsTest, SpellsTerm, SpellsSet, Begins, SpellsLine}
 use Rattle.nego_reader.specs.Printing.{right_text, test_text, plus_text, term_text, set_text, row_words}
 use Rattle.nego_reader.proofs.SpelledRows.{IsRight, IsTest, IsTerm, IsSet, IsRow}
 

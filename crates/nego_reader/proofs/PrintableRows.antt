@@ -4,6 +4,7 @@ use Rattle.std.specs.List.{list_all}
 use Rattle.std.proofs.lemmas.Bool.{and_parts, leb-true, ltb-true, cond_both}
 use Rattle.std.proofs.lemmas.List.{length-append}
 use Rattle.std.proofs.lemmas.List.Elements.{All-nil, All-cons, All-append, All-map, All-weaker}
+use Rattle.nego_base.specs.LineGrammar.{IsNameWord}
 use Rattle.nego_base.specs.declared.op.Op.{Op}
 use Rattle.nego_base.specs.declared.op.Op.TheVariants.{Eq, Ne, Lt, Le, Gt, Ge}
 use Rattle.nego_base.specs.declared.line.Word.{Word}
@@ -17,7 +18,7 @@ use Rattle.nego_reader.specs.declared.parsed.PTerm.{PTerm}
 use Rattle.nego_reader.specs.declared.parsed.PTerm.TheVariants as terms
 use Rattle.nego_reader.specs.Content.{texts}
 use Rattle.nego_reader.specs.Rows.{Row, HeaderRow, AgentRow, AtomRow, OutRow, CaseRow, NextRow, FirstRow, LastRow, EndRow}
-use Rattle.nego_reader.specs.Spelling.{IsNameWord, op_text}
+use Rattle.nego_reader.specs.Spelling.{op_text}
 use Rattle.nego_reader.specs.Printing.{right_text, test_text, term_text, set_text, row_words}
 use Rattle.nego_reader.proofs.Spacing.{spaced, printed_line_fits}
 use Rattle.nego_reader.proofs.SpelledRows.{IsRight, IsTest, IsTerm, IsSet, IsRow}

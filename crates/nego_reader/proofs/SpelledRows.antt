@@ -3,6 +3,7 @@ use Rattle.std.proofs.Common.{◌≡◌, ℕ, ◌+◌, ◌==◌, ◌<◌, ◌≤
 use Rattle.std.proofs.lemmas.Bool.{cond-true, cond_both, eq-eqb}
 use Rattle.std.proofs.lemmas.List.{length-append, map-append}
 use Rattle.std.proofs.lemmas.List.Elements.{All-nil, All-cons}
+use Rattle.nego_base.specs.LineGrammar.{IsNameWord}
 use Rattle.nego_base.specs.declared.line.Word.{Word}
 use Rattle.nego_base.specs.declared.line.Line.{Line}
 use Rattle.nego_reader.specs.declared.parsed.PTest.{PTest}
@@ -13,7 +14,7 @@ use Rattle.nego_reader.specs.declared.parsed.PTerm.{PTerm}
 use Rattle.nego_reader.specs.declared.parsed.PTerm.TheVariants as terms
 use Rattle.nego_reader.specs.Content.{texts}
 use Rattle.nego_reader.specs.Rows.{Row, HeaderRow, AgentRow, AtomRow, OutRow, CaseRow, NextRow, FirstRow, LastRow, EndRow}
-use Rattle.nego_reader.specs.Spelling.{Each, IsNameWord, op_text, SpellsRight, SpellsTest, SpellsSum, SpellsTerm, SpellsSet, Begins, SpellsLine}
+use Rattle.nego_reader.specs.Spelling.{Each, op_text, SpellsRight, SpellsTest, SpellsSum, SpellsTerm, SpellsSet, Begins, SpellsLine}
 use Rattle.nego_reader.specs.Printing.{right_text, test_text, plus_text, term_text, set_text, row_words}
 use Rattle.nego_reader.proofs.Spacing.{spaced, spaced-append}
 

@@ -1,65 +1,15 @@
 -- Lines in their order are those of a diagram.
-use Rattle.std.proofs.Common.{◌≡◌, ℕ, List, [], ◌∷◌, ◌++◌, map, Option, Some, None, Result, Ok, Err, refl, sym, ap, subst, ◌∙◌, append_assoc}
-use Rattle.std.specs.Prelude.{find}
+use Rattle.std.proofs.Common.{◌≡◌, List, [], ◌∷◌, ◌++◌, map, Option, Some, None, refl, sym, ap, ◌∙◌, append_assoc}
 use Rattle.std.specs.List.{flat_map}
-use Rattle.std.specs.Option.{option_map_or}
-use Rattle.std.specs.Str.{bytes_eq}
-use Rattle.nego_base.specs.declared.fault.FaultKind.TheVariants as fault_kinds
-use Rattle.nego_base.specs.declared.fault.Fault.{Fault}
 use Rattle.nego_base.specs.declared.line.Word.{Word}
-use Rattle.nego_base.specs.declared.line.Line.{Line}
-use Rattle.nego_base.specs.Grammar.{at_word, exact_words}
-use Rattle.nego_base.specs.Results.{◌>>=◌}
-use Rattle.nego_base.proofs.Cases.{bind_ok, same_Ok}
 use Rattle.nego_reader.specs.declared.parsed.Parsed.{Parsed}
 use Rattle.nego_reader.specs.declared.parsed.PAtom.{PAtom}
 use Rattle.nego_reader.specs.declared.parsed.POut.{POut}
 use Rattle.nego_reader.specs.declared.parsed.PAgent.{PAgent}
 use Rattle.nego_reader.specs.declared.parsed.PNext.{PNext}
 use Rattle.nego_reader.specs.declared.parsed.PCase.{PCase}
-use Rattle.nego_reader.specs.Rows.{Kind, Nego, Agent, Atom, Out, Case, Next, First, Last, End, Row, HeaderRow, AgentRow, AtomRow, OutRow, CaseRow, NextRow, FirstRow, LastRow, EndRow, keyword, followers, kind_of, out_rows, atom_rows, rows_of}
-use Rattle.nego_reader.specs.Reading.{word_in, kind_in, header_in, agent_in, names_in, named_in, case_in, next_in, row_of, walk}
-use Rattle.nego_reader.proofs.Orders.{MayStand, InOrder, kind_ok}
-
--- ---- lines that are read are in their order
-
-row_kind : (kind : Kind) (line : Line) (row : Row) → row_of kind line ≡ Ok row → kind_of row ≡ kind
-unfolding row_of
-row_kind Nego line row h = ap kind_of (sym (same_Ok {E = Fault} _ row (bind_ok (header_in line) (λ _. Ok HeaderRow) row h).2))
-row_kind Agent line row h = let a = bind_ok (agent_in line) (λ agent. Ok (AgentRow agent)) row h in ap kind_of (sym (same_Ok {E = Fault} (AgentRow a.0) row a.2))
-row_kind Atom line row h = let a = bind_ok (names_in 2 line) (λ names. Ok (AtomRow names.0 names.1)) row h in ap kind_of (sym (same_Ok {E = Fault} (AtomRow a.0.0 a.0.1) row a.2))
-row_kind Out line row h = let a = bind_ok (named_in line) (λ name. Ok (OutRow name)) row h in ap kind_of (sym (same_Ok {E = Fault} (OutRow a.0) row a.2))
-row_kind Case line row h = let a = bind_ok (case_in line) (λ c. Ok (CaseRow c)) row h in ap kind_of (sym (same_Ok {E = Fault} (CaseRow a.0) row a.2))
-row_kind Next line row h = let a = bind_ok (next_in line) (λ next. Ok (NextRow next)) row h in ap kind_of (sym (same_Ok {E = Fault} (NextRow a.0) row a.2))
-row_kind First line row h = let a = bind_ok (named_in line) (λ name. Ok (FirstRow name)) row h in ap kind_of (sym (same_Ok {E = Fault} (FirstRow a.0) row a.2))
-row_kind Last line row h = let a = bind_ok (named_in line) (λ name. Ok (LastRow name)) row h in ap kind_of (sym (same_Ok {E = Fault} (LastRow a.0) row a.2))
-row_kind End line row h = ap kind_of (sym (same_Ok {E = Fault} _ row (bind_ok (exact_words 1 line) (λ _. Ok EndRow) row h).2))
-
-found_kind : (o : Option Kind) (fault : Fault) (kind : Kind) → ◌≡◌ {A = Result Kind Fault} (option_map_or (λ k. Ok k) o (Err fault)) (Ok kind) → o ≡ Some kind
-found_kind None fault kind h = absurd cc
-found_kind (Some k) fault kind h = ap (λ (x : Kind). Some x) (same_Ok {E = Fault} k kind h)
-
-kind_may : (kinds : List Kind) (line : Line) (kind : Kind) → kind_in kinds line ≡ Ok kind → MayStand kind kinds
-unfolding kind_in
-kind_may kinds line kind h =
-    let a = bind_ok (word_in line 0) (λ first. option_map_or (λ k. Ok k) (find (λ k. bytes_eq first.text (keyword k)) kinds) (Err (at_word fault_kinds.Word first))) kind h in
-    let known = kind_ok kinds line kind h in
-    let same : a.0 ≡ known.0 = same_Ok {E = Fault} a.0 known.0 (sym a.1 ∙ known.1) in
-    let text : a.0.text ≡ keyword kind = ap (λ (w : Word). w.text) same ∙ known.2 in
-    ap (λ (t : List ℕ). find (λ k. bytes_eq t (keyword k)) kinds) (sym text) ∙ found_kind (find (λ k. bytes_eq a.0.text (keyword k)) kinds) (at_word fault_kinds.Word a.0) kind a.2
-
-walk_order : (missing : Fault) (kinds : List Kind) (lines : List Line) (rows : List Row) → walk missing kinds lines ≡ Ok rows → InOrder kinds rows
-unfolding walk
-walk_order missing [] [] rows h = subst (InOrder []) (same_Ok {E = Fault} [] rows h) refl
-walk_order missing (kind ∷ kinds) [] rows h = absurd cc
-walk_order missing kinds (line ∷ lines) rows h =
-    let a = bind_ok (kind_in kinds line) (λ kind. row_of kind line >>= λ row. walk missing (followers kind) lines >>= λ rows. Ok (row ∷ rows)) rows h in
-    let b = bind_ok (row_of a.0 line) (λ row. walk missing (followers a.0) lines >>= λ rows. Ok (row ∷ rows)) rows a.2 in
-    let c = bind_ok (walk missing (followers a.0) lines) (λ rows. Ok (b.0 ∷ rows)) rows b.2 in
-    let kind : kind_of b.0 ≡ a.0 = row_kind a.0 line b.0 b.1 in
-    let order : MayStand (kind_of b.0) kinds × InOrder (followers (kind_of b.0)) c.0 =
-    subst (λ (k : Kind). MayStand k kinds × InOrder (followers k) c.0) (sym kind) (kind_may kinds line a.0 a.1, walk_order missing (followers a.0) lines c.0 c.1) in
-    subst (InOrder kinds) (same_Ok {E = Fault} (b.0 ∷ c.0) rows c.2) order
+use Rattle.nego_reader.specs.Rows.{Kind, Nego, Agent, Atom, Out, Case, Next, First, Last, End, Row, HeaderRow, AgentRow, AtomRow, OutRow, CaseRow, NextRow, FirstRow, LastRow, EndRow, out_rows, atom_rows, rows_of}
+use Rattle.nego_reader.proofs.Orders.{InOrder}
 
 -- ---- the pieces of lines in their order
 
@@ -219,7 +169,7 @@ diagram_of rows (agents, rest, are, (atoms, first, last, rest_are)) = (
   ap (λ (rs : List Row). HeaderRow ∷ rs) (are ∙ (ap (λ (rs : List Row). map AgentRow agents ++ rs) rest_are ∙ sym (append_assoc (map AgentRow agents) (flat_map atom_rows atoms) (ends first last)))),
 )
 
-order_diagram : (rows : List Row) → InOrder (Nego ∷ []) rows → (p : Parsed) × (rows ≡ rows_of p)
+pub order_diagram : (rows : List Row) → InOrder (Nego ∷ []) rows → (p : Parsed) × (rows ≡ rows_of p)
 order_diagram [] h = no_end h
 order_diagram (HeaderRow ∷ rows) h = diagram_of rows ((stages rows).agents h.1)
 order_diagram (AgentRow a ∷ rows) h = no h.0
@@ -230,7 +180,3 @@ order_diagram (NextRow n ∷ rows) h = no h.0
 order_diagram (FirstRow name ∷ rows) h = no h.0
 order_diagram (LastRow name ∷ rows) h = no h.0
 order_diagram (EndRow ∷ rows) h = no h.0
-
--- what lines say where none of them has a fault is a diagram
-pub walk_diagram : (missing : Fault) (lines : List Line) (rows : List Row) → walk missing (Nego ∷ []) lines ≡ Ok rows → (p : Parsed) × (rows ≡ rows_of p)
-walk_diagram missing lines rows h = order_diagram rows (walk_order missing (Nego ∷ []) lines rows h)

@@ -6,6 +6,7 @@ use Rattle.std.specs.Option.{option_map_or}
 use Rattle.std.specs.Str.{bytes_eq}
 use Rattle.std.proofs.lemmas.List.{map_push, append-nil}
 use Rattle.std.proofs.lemmas.Grind.{flat_map-append}
+use Rattle.nego_base.specs.LineWalk.{word_in, walk_lines, kind_of_line}
 use Rattle.nego_base.specs.declared.fault.FaultKind.TheVariants as fault_kinds
 use Rattle.nego_base.specs.declared.fault.Fault.{Fault}
 use Rattle.nego_base.specs.declared.fault.ReadFaults.{ReadFaults}
@@ -15,7 +16,7 @@ use Rattle.nego_base.specs.declared.line.Line.{Line}
 use Rattle.nego_base.specs.Grammar.{at_word, past_line}
 use Rattle.nego_base.specs.Results.{◌>>=◌}
 use Rattle.nego_reader.specs.Rows.{Kind, Row, keyword, followers}
-use Rattle.nego_reader.specs.Reading.{word_in, kind_in, row_of, walk}
+use Rattle.nego_reader.specs.Reading.{kind_in, row_of, walk}
 use Rattle.nego_reader.specs.Answer.{onto, Fails, FitsLine, begins, ReadsTo}
 use Rattle.nego_reader.proofs.Loops.{onto_onto, onto_nil, fails_onto}
 
@@ -27,7 +28,7 @@ kind_by kinds line o =
     option_map_or (λ word. Ok word) o (Err (past_line fault_kinds.Count line)) >>= λ first. option_map_or (λ kind. Ok kind) (find (λ kind. bytes_eq first.text (keyword kind)) kinds) (Err (at_word fault_kinds.Word first))
 
 kind_is : (kinds : List Kind) (line : Line) → kind_in kinds line ≡ kind_by kinds line (slice_get line.words 0)
-unfolding kind_in word_in
+unfolding kind_of_line word_in
 kind_is kinds line = refl
 
 begins_is : (text : List ℕ) (line : Line) (lines : List Line) → begins text (line ∷ lines) ≡ option_map_or (λ word. bytes_eq word.text text) (slice_get line.words 0) false
@@ -51,12 +52,12 @@ kind_others kind kinds line lines h =
 
 pub walk_line : (missing : Fault) (kind : Kind) (kinds : List Kind) (line : Line) (lines : List Line) → kind_in kinds line ≡ Ok kind →
     walk missing kinds (line ∷ lines) ≡ (row_of kind line >>= λ row. walk missing (followers kind) lines >>= λ rows. Ok (row ∷ rows))
-unfolding walk
+unfolding walk_lines
 walk_line missing kind kinds line lines h = rw h refl
 
 -- a kind that the line isn't of may be left out
 pub walk_others : (missing : Fault) (kind kind' : Kind) (kinds : List Kind) (lines : List Line) → begins (keyword kind) lines ≡ false → walk missing (kind ∷ kind' ∷ kinds) lines ≡ walk missing (kind' ∷ kinds) lines
-unfolding walk
+unfolding walk_lines
 walk_others missing kind kind' kinds [] h = refl
 walk_others missing kind kind' kinds (line ∷ lines) h = rw (kind_others kind (kind' ∷ kinds) line lines h) refl
 

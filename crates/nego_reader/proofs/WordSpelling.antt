@@ -10,6 +10,7 @@ use Rattle.std.proofs.lemmas.List.Quantifiers.{position-Some}
 use Rattle.std.proofs.lemmas.List.Folds.{list_any-append}
 use Rattle.std.proofs.lemmas.Option.{cond_some, same_Some}
 use Rattle.std.proofs.lemmas.Slice.Eq.{bytes_eq-Decides}
+use Rattle.nego_base.specs.LineGrammar.{IsNameWord, IsNumeral}
 use Rattle.nego_base.specs.declared.op.Op.{Op}
 use Rattle.nego_base.specs.declared.op.Op.TheVariants.{Eq, Ne, Lt, Le, Gt, Ge}
 use Rattle.nego_base.specs.declared.fault.FaultKind.TheVariants as fault_kinds
@@ -30,7 +31,7 @@ use Rattle.nego_reader.specs.declared.parsed.PRight.TheVariants as rights
 use Rattle.nego_reader.specs.declared.parsed.PSet.{PSet}
 use Rattle.nego_reader.specs.declared.parsed.PTerm.{PTerm}
 use Rattle.nego_reader.specs.declared.parsed.PTerm.TheVariants as terms
-use Rattle.nego_reader.specs.Spelling.{IsNameWord, IsNumeral, IsInside, op_text, SpellsRight, SpellsTest, SpellsSum, SpellsTerm, SpellsSet}
+use Rattle.nego_reader.specs.Spelling.{IsInside, op_text, SpellsRight, SpellsTest, SpellsSum, SpellsTerm, SpellsSet}
 use Rattle.nego_reader.specs.Reading.{name_end, sign_end, piece, in_case, op_of, name_at, right_at, test_at, test_of, sum_of, sum_at, term_at, behind, set_of}
 
 -- ---- steps

@@ -1,5 +1,5 @@
 -- What the private readers promise of their answers.
-use Rattle.std.specs.Prelude.{◌≡◌, ℕ, ◌+◌, ◌-◌, ◌^◌, ◌<◌, ◌≤◌, Bool, false, List, [], ◌∷◌, ◌++◌, length, slice_get, Some, Result, Ok, Err, All, ⊤}
+use Rattle.std.specs.Prelude.{◌≡◌, ℕ, ◌+◌, ◌-◌, ◌^◌, ◌<◌, ◌≤◌, Bool, false, List, [], ◌∷◌, ◌++◌, length, slice_get, Result, Ok, Err, All, ⊤}
 use Rattle.std.specs.Option.{option_map_or}
 use Rattle.std.specs.Str.{bytes_eq}
 use Rattle.nego_base.specs.declared.fault.Fault.{Fault}
@@ -9,7 +9,8 @@ use Rattle.nego_base.specs.declared.line.Word.{Word}
 use Rattle.nego_base.specs.declared.line.Line.{Line}
 use Rattle.nego_base.specs.Results.{◌>>=◌}
 use Rattle.nego_reader.specs.Rows.{Kind, Row}
-use Rattle.nego_reader.specs.Reading.{walk, diagram_fault}
+use Rattle.nego_reader.specs.Reading.{walk}
+use Rattle.nego_reader.specs.Table.{IsFirstFault}
 use Rattle.nego_reader.specs.Spelling.{Spells}
 use Rattle.nego_reader.specs.declared.parsed.Parsed.{Parsed}
 
@@ -58,10 +59,10 @@ abbrev pub Goes : {X : Type 0} → (X → List Row × List Line) → List Kind �
 Goes view kinds lines kinds' (Ok x) = ReadsTo kinds lines (view x).0 kinds' (view x).1
 Goes view kinds lines kinds' (Err e) = (missing : Fault) → Fails e (walk missing kinds lines)
 
--- where an answer comes that isn't a diagram
+-- where an answer comes that isn't a diagram: the fault is the text's first; want of memory is free
 abbrev pub ReadHasCause : ReadFaults → List ℕ → Type 0
 ReadHasCause faults.Memory bytes = ⊤
-ReadHasCause (faults.Off fault) bytes = diagram_fault bytes ≡ Some fault
+ReadHasCause (faults.Off fault) bytes = IsFirstFault bytes fault
 
 -- a text that is off its grammar spells nothing
 abbrev pub SpellsNothing : ReadFaults → List ℕ → Type 0

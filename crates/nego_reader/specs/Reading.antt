@@ -1,6 +1,6 @@
 -- What a word, a line and the lines of a text say, or their first fault: lines from the first on, and in a line its first
 -- word, then how many words there are, then the words from left to right.
-use Rattle.std.specs.Prelude.{ℕ, ◌+◌, Bool, not, ◌==◌, if◌then◌else◌, List, [], ◌∷◌, length, take, drop, find, position, slice_get, unwrap_or, Option, Some, None, Result, Ok, Err, codes}
+use Rattle.std.specs.Prelude.{ℕ, ◌+◌, not, ◌==◌, if◌then◌else◌, List, [], ◌∷◌, length, take, drop, position, unwrap_or, Option, Some, None, Result, Ok, Err, codes}
 use Rattle.std.specs.List.{list_any}
 use Rattle.std.specs.Option.{option_map_or, option_and_then}
 use Rattle.std.specs.Str.{bytes_eq}
@@ -13,8 +13,11 @@ use Rattle.nego_base.specs.declared.line.Line.{Line}
 use Rattle.nego_base.specs.Name.{is_name, is_name_byte}
 use Rattle.nego_base.specs.Number.{number_of}
 use Rattle.nego_base.specs.Results.{◌>>=◌}
-use Rattle.nego_base.specs.Scan.{scan_fault, scanned, count_lines}
-use Rattle.nego_base.specs.Grammar.{at_word, past_line, least_words, exact_words, name_word, number_word}
+use Rattle.nego_base.specs.Scan.{scanned, count_lines}
+use Rattle.nego_base.specs.LineGrammar.{missing_end}
+use Rattle.nego_base.specs.LineWalk.{word_in, each, kind_of_line, walk_lines}
+use Rattle.nego_reader.specs.Table.{is_colon, diagram_lines}
+use Rattle.nego_base.specs.Grammar.{at_word, least_words, exact_words, name_word, number_word}
 use Rattle.nego_reader.specs.declared.parsed.PAgent.{PAgent}
 use Rattle.nego_reader.specs.declared.parsed.PNext.{PNext}
 use Rattle.nego_reader.specs.declared.parsed.PCase.{PCase}
@@ -24,7 +27,7 @@ use Rattle.nego_reader.specs.declared.parsed.PRight.TheVariants as rights
 use Rattle.nego_reader.specs.declared.parsed.PSet.{PSet}
 use Rattle.nego_reader.specs.declared.parsed.PTerm.{PTerm}
 use Rattle.nego_reader.specs.declared.parsed.PTerm.TheVariants as terms
-use Rattle.nego_reader.specs.Rows.{Kind, Nego, Agent, Atom, Out, Case, Next, First, Last, End, Row, HeaderRow, AgentRow, AtomRow, OutRow, CaseRow, NextRow, FirstRow, LastRow, EndRow, keyword, followers}
+use Rattle.nego_reader.specs.Rows.{Kind, Nego, Agent, Atom, Out, Case, Next, First, Last, End, Row, HeaderRow, AgentRow, AtomRow, OutRow, CaseRow, NextRow, FirstRow, LastRow, EndRow}
 
 -- ---- in a word
 
@@ -100,18 +103,6 @@ set_of word = do
 
 -- ---- in a line
 
--- what each item gives, or the first fault
-unfoldable pub each : {A B : Type 0} → (A → Result B Fault) → List A → Result (List B) Fault
-each f [] = Ok []
-each f (x ∷ xs) = do
-  y ← f x
-  ys ← each f xs
-  Ok (y ∷ ys)
-
--- the word at a place of a line, counted from 0
-unfoldable pub word_in : Line → ℕ → Result Word Fault
-word_in line i = option_map_or (λ word. Ok word) (slice_get line.words i) (Err (past_line fault_kinds.Count line))
-
 -- the name that a word is
 unfoldable pub name_of : Word → Result Word Fault
 name_of word = do
@@ -159,9 +150,6 @@ next_in line = do
   names ← names_in 3 line
   Ok (record { atom = names.0; agents = names.1 })
 
-abbrev pub is_colon : Word → Bool
-is_colon word = bytes_eq word.text (codes ":")
-
 -- the words before and behind the one colon
 unfoldable pub sides_of : List Word → Option (List Word × List Word)
 sides_of words = option_and_then (λ n. if list_any is_colon (drop (n + 1) words) then None else Some (take n words, drop (n + 1) words)) (position is_colon words)
@@ -189,30 +177,17 @@ row_of End line = exact_words 1 line >>= λ _. Ok EndRow
 
 -- ---- in a text
 
+-- what a line of a kind says, whatever may stand there
+abbrev pub row_in : List Kind → Kind → Line → Result Row Fault
+row_in kinds kind line = row_of kind line
+
 -- of which kind a line is, where these kinds may stand
-unfoldable pub kind_in : List Kind → Line → Result Kind Fault
-kind_in kinds line = do
-  first ← word_in line 0
-  option_map_or (λ kind. Ok kind) (find (λ kind. bytes_eq first.text (keyword kind)) kinds) (Err (at_word fault_kinds.Word first))
+abbrev pub kind_in : List Kind → Line → Result Kind Fault
+kind_in kinds line = kind_of_line diagram_lines row_in kinds line
 
--- what no line says, where a line of these kinds may stand
-abbrev pub ended : Fault → List Kind → Result (List Row) Fault
-ended missing [] = Ok []
-ended missing (kind ∷ kinds) = Err missing
-
--- What the lines say, of which the first may be of these kinds. The fault `missing` is that of a text that has no line
--- `end`.
-unfoldable pub walk : Fault → List Kind → List Line → Result (List Row) Fault
-walk missing kinds [] = ended missing kinds
-walk missing kinds (line ∷ lines) = do
-  kind ← kind_in kinds line
-  row ← row_of kind line
-  rows ← walk missing (followers kind) lines
-  Ok (row ∷ rows)
-
--- the fault of a text that has no line `end`: on the line behind its last
-abbrev pub missing_end : ℕ → Fault
-missing_end count = record { line = count + 1; column = 1; kind = fault_kinds.Word }
+-- what the lines say, of which the first may be of these kinds
+abbrev pub walk : Fault → List Kind → List Line → Result (List Row) Fault
+walk missing kinds lines = walk_lines diagram_lines row_in missing kinds lines
 
 -- the first line, whose first word must be this text, and the lines behind it
 unfoldable pub line_at : List ℕ → Fault → List Line → Result (Line × List Line) Fault
@@ -262,12 +237,3 @@ ends_at missing lines = do
 -- what the lines of a text say, or the first fault among them
 abbrev pub said : List ℕ → Result (List Row) Fault
 said bytes = walk (missing_end (count_lines bytes)) (Nego ∷ []) (scanned bytes)
-
--- the fault that is given, if one is
-abbrev pub fault_of : {A : Type 0} → Result A Fault → Option Fault
-fault_of (Ok x) = None
-fault_of (Err fault) = Some fault
-
--- The fault of a text: the first of its lines and bytes, and else the first of what its lines say.
-unfoldable pub diagram_fault : List ℕ → Option Fault
-diagram_fault bytes = option_map_or (λ fault. Some fault) (scan_fault bytes) (fault_of (said bytes))

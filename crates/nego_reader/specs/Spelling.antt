@@ -1,11 +1,11 @@
 -- Which lines spell which diagram, by cases on the value. The words of a value are words of the lines, with their
 -- places. A word inside of a bigger one has the place of its own first byte.
-use Rattle.std.specs.Prelude.{◌≡◌, ℕ, ◌+◌, ◌<◌, ◌≤◌, IsTrue, List, [], ◌∷◌, ◌++◌, length, All, codes, decimal, None, ◌⊎◌}
+use Rattle.std.specs.Prelude.{◌≡◌, ℕ, ◌+◌, ◌<◌, List, [], ◌∷◌, ◌++◌, length, All, codes, None, ◌⊎◌}
 use Rattle.nego_base.specs.declared.op.Op.{Op}
 use Rattle.nego_base.specs.declared.op.Op.TheVariants.{Eq, Ne, Lt, Le, Gt, Ge}
 use Rattle.nego_base.specs.declared.line.Word.{Word}
 use Rattle.nego_base.specs.declared.line.Line.{Line}
-use Rattle.nego_base.specs.Name.{is_name}
+use Rattle.nego_base.specs.LineGrammar.{IsNameWord, IsNumeral}
 use Rattle.nego_base.specs.Scan.{scan_fault, scanned}
 use Rattle.nego_reader.specs.declared.parsed.Parsed.{Parsed}
 use Rattle.nego_reader.specs.declared.parsed.PTest.{PTest}
@@ -21,14 +21,6 @@ abbrev pub Each : {A B : Type 0} → (A → B → Type 0) → List A → List B 
 Each R [] [] = Unit {0}
 Each R (x ∷ xs) (y ∷ ys) = R x y × Each R xs ys
 Each R _ _ = ⊥
-
--- the word is a name
-abbrev pub IsNameWord : Word → Type 0
-IsNameWord word = IsTrue (is_name word.text)
-
--- the bytes are the number, which has six digits at most
-abbrev pub IsNumeral : List ℕ → ℕ → Type 0
-IsNumeral bytes n = (bytes ≡ decimal n) × (n ≤ 999999)
 
 -- The word is the bytes of another from the place i, counted from 0, on.
 pub record IsInside (i : ℕ) (bytes : List ℕ) (outer word : Word) : Type 0 where

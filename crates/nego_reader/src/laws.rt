@@ -1,21 +1,23 @@
 //! What texts spell, where their faults are, and what is printed. Each function does nothing; its clause is the law.
 
-ghost use Rattle.std.specs.Prelude.{◌≡◌, ℕ, List, None};
+ghost use Rattle.std.specs.Prelude.{◌≡◌, ◌⊎◌, ℕ, List};
 ghost use Rattle.nego_reader.specs.declared.parsed.Parsed.{Parsed};
 ghost use Rattle.nego_reader.specs.Content.{content_of};
 ghost use Rattle.nego_reader.specs.Printing.{printed_diagram};
 ghost use Rattle.nego_reader.specs.Spelling.{Spells};
-ghost use Rattle.nego_reader.specs.Reading.{diagram_fault};
+ghost use Rattle.nego_reader.specs.Table.{IsFirstFault};
+ghost use Rattle.nego_base.specs.declared.fault.Fault.{Fault};
 
 /// A text spells at most one diagram.
 pub fn texts_spell_one_diagram()
     ensures { (bytes : List ℕ) (p q : Parsed) → Spells bytes p → Spells bytes q → p ≡ q }
 {}
 
-/// A text has a fault exactly where it spells no diagram.
-pub fn faults_are_where_nothing_is_spelled()
-    ensures spelled { (bytes : List ℕ) → diagram_fault bytes ≡ None → (p : Parsed) × Spells bytes p }
-    ensures sound { (bytes : List ℕ) (p : Parsed) → Spells bytes p → diagram_fault bytes ≡ None }
+/// A text spells a diagram or has a first fault, never both, and it has one first fault at most.
+pub fn texts_have_one_fault_or_none()
+    ensures either { (bytes : List ℕ) → ((p : Parsed) × Spells bytes p) ⊎ ((fault : Fault) × IsFirstFault bytes fault) }
+    ensures apart { (bytes : List ℕ) (p : Parsed) (fault : Fault) → Spells bytes p → IsFirstFault bytes fault → ⊥ }
+    ensures once { (bytes : List ℕ) (one two : Fault) → IsFirstFault bytes one → IsFirstFault bytes two → one ≡ two }
 {}
 
 /// The printed text of a diagram that some text spells spells it too: all but the places of its words. Diagrams that

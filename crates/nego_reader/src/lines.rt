@@ -2,8 +2,10 @@
 
 ghost use Rattle.std.specs.Prelude.{◌≡◌, ◌==◌, ◌+◌, ◌<◌, ◌^◌, All, drop, length, position, option_map, IfOk, IfSome};
 ghost use Rattle.std.specs.List.{list_any};
+ghost use Rattle.nego_reader.specs.Table.{is_colon};
+ghost use Rattle.nego_base.specs.LineWalk.{each, word_in};
 ghost use Rattle.nego_base.specs.Grammar.{exact_words};
-ghost use Rattle.nego_reader.specs.Reading.{each, word_in, name_of, name_in, header_in, agent_in, named_in, names_in, next_in, is_colon, sides_of, case_in, test_of, set_of};
+ghost use Rattle.nego_reader.specs.Reading.{name_of, name_in, header_in, agent_in, named_in, names_in, next_in, sides_of, case_in, test_of, set_of};
 ghost use Rattle.nego_reader.specs.Answer.{Gives, Tells, FitsWord, FitsLine};
 
 use crate::parsed::{PAgent, PCase, PNext, PSet, PTest};
@@ -12,7 +14,7 @@ use nego_base::{Fault, FaultKind, Line, Memory, ReadFaults, Seq, Text, Word};
 use std::alloc::Global;
 
 /// The word at a place of the line, counted from 0.
-#[tactic(auto, unfolding(crate::specs::Reading::word_in))]
+#[tactic(auto, unfolding(nego_base::specs::LineWalk::word_in))]
 pub(crate) fn word_in(line: &Line, i: usize) -> Result<&Word, Fault>
     requires { FitsLine line.now }
     ensures { Tells (λ word. word.now) result (word_in line.now i) }

@@ -2,10 +2,11 @@
 
 ghost use Rattle.std.specs.Prelude.{◌≡◌, ◌+◌, ◌-◌, ◌<◌, ◌^◌, ◌≤◌, true, false, List, [], ◌∷◌, All, map, option_map, IfSome, IfNone, IfOk, length};
 ghost use Rattle.std.specs.List.{flat_map};
+ghost use Rattle.nego_base.specs.LineGrammar.{missing_end};
 ghost use Rattle.nego_base.specs.declared.fault.Fault.{Fault};
 ghost use Rattle.nego_base.specs.declared.line.Line.{Line};
 ghost use Rattle.nego_reader.specs.Rows.{Kind, Nego, Agent, Atom, Out, Case, Next, First, Last, End, Row, AgentRow, CaseRow, NextRow, out_rows, atom_rows, rows_of, keyword};
-ghost use Rattle.nego_reader.specs.Reading.{walk, missing_end, line_at, header_at, nothing_at, end_at, last_at, ends_at};
+ghost use Rattle.nego_reader.specs.Reading.{walk, line_at, header_at, nothing_at, end_at, last_at, ends_at};
 ghost use Rattle.nego_reader.specs.Answer.{Gives, Tells, Goes, FitsLine, begins};
 
 use crate::lines::{agent_in, case_in, header_in, named_in, names_in, next_in, word_in};

@@ -1,5 +1,6 @@
 use Rattle.std.proofs.lemmas.Result.{err_from_is_err_and}
-use Rattle.nego_reader.specs.Reading.{each, name_of}
+use Rattle.nego_base.specs.LineWalk.{each}
+use Rattle.nego_reader.specs.Reading.{name_of}
 use Rattle.nego_reader.proofs.Loops.{each_goes_on, each_stops, each_done}
 use Rattle.nego_reader.proofs.lines.names_of.Goals as goal
 

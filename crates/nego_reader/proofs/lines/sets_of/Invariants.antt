@@ -1,5 +1,6 @@
 use Rattle.std.proofs.Common.{◌≡◌, drop}
-use Rattle.nego_reader.specs.Reading.{each, set_of}
+use Rattle.nego_base.specs.LineWalk.{each}
+use Rattle.nego_reader.specs.Reading.{set_of}
 use Rattle.nego_reader.specs.Answer.{onto}
 use Rattle.nego_reader.proofs.lines.sets_of.Given as goal
 

@@ -1,5 +1,5 @@
 use Rattle.std.proofs.lemmas.Result.{err_from_is_err_and}
-use Rattle.nego_reader.specs.Reading.{missing_end}
+use Rattle.nego_base.specs.LineGrammar.{missing_end}
 use Rattle.nego_reader.proofs.Whole.{header_fails, agents_fail, atoms_fail, ends_fail, whole}
 use Rattle.nego_reader.proofs.pieces.diagram.Goals as goal
 

@@ -1,11 +1,15 @@
-use Rattle.nego_reader.proofs.Said.{is_spelled, is_sound, is_unspelled}
+use Rattle.nego_reader.proofs.Said.{walk_caused, walk_spelled, is_unspelled}
 use Rattle.nego_reader.proofs.reading.read_diagram.Goals as goal
 
 pub returns-clause-spelled : goal.returns-clause-spelled
-returns-clause-spelled c = is_spelled c.said.result c.args.bytes.now c.said.ensures.scans c.said.ensures.says
+returns-clause-spelled c =
+    walk_spelled c.diagram.result c.args.bytes.now c.as_slice.result.now c.in_ok-lines.lines.lines c.in_ok-lines.lines.count c.in_ok-lines.ensures.sound c.in_ok-lines.ensures.lines c.in_ok-lines.ensures.count c.as_slice.ensures c.diagram.ensures
 
-pub returns-clause-sound : goal.returns-clause-sound
-returns-clause-sound c = is_sound c.said.result c.args.bytes.now c.said.ensures.scans c.said.ensures.says
+pub returns-clause-fault : goal.returns-clause-fault
+returns-clause-fault c =
+    walk_caused c.diagram.result c.args.bytes.now c.as_slice.result.now c.in_ok-lines.lines.lines c.in_ok-lines.lines.count c.in_ok-lines.ensures.sound c.in_ok-lines.ensures.lines c.in_ok-lines.ensures.count c.as_slice.ensures c.diagram.ensures
 
 pub returns-clause-unspelled : goal.returns-clause-unspelled
-returns-clause-unspelled c = is_unspelled c.said.result c.args.bytes.now c.said.ensures.fault
+returns-clause-unspelled c =
+    is_unspelled c.diagram.result c.args.bytes.now
+    (walk_caused c.diagram.result c.args.bytes.now c.as_slice.result.now c.in_ok-lines.lines.lines c.in_ok-lines.lines.count c.in_ok-lines.ensures.sound c.in_ok-lines.ensures.lines c.in_ok-lines.ensures.count c.as_slice.ensures c.diagram.ensures)
