@@ -16,7 +16,7 @@ use Rattle.nego_reader.specs.Content.{texts, agent_content, case_content, next_c
 use Rattle.nego_reader.specs.Rows.{Row, HeaderRow, AgentRow, AtomRow, OutRow, CaseRow, NextRow, FirstRow, LastRow, EndRow, out_rows, atom_rows, rows_of}
 use Rattle.nego_reader.specs.Spelling.{Each, SpellsLine, SpellsDiagram}
 use Rattle.nego_reader.specs.Printing.{row_words}
-use Rattle.nego_reader.proofs.SpelledRows.{IsRow}
+use Rattle.nego_reader.specs.Printable.{IsRow}
 use Rattle.nego_reader.proofs.PrintableRows.{row_printable}
 use Rattle.nego_reader.proofs.PlacedRows.{header_at, end_at, agent_at, named_at, one_at, next_at, case_at}
 

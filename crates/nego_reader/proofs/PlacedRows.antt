@@ -20,7 +20,7 @@ use Rattle.nego_reader.specs.Rows.{HeaderRow, AgentRow, CaseRow, NextRow, EndRow
 use Rattle.nego_reader.specs.Reading.{piece}
 use Rattle.nego_reader.specs.Spelling.{Each, IsInside, op_text, SpellsRight, SpellsTest, SpellsTerm, SpellsSet, Begins, SpellsLine}
 use Rattle.nego_reader.specs.Printing.{right_text, test_text, plus_text, term_text, set_text, row_words}
-use Rattle.nego_reader.proofs.SpelledRows.{IsRight, IsTest, IsTerm, IsSet, IsRow}
+use Rattle.nego_reader.specs.Printable.{IsRight, IsTest, IsTerm, IsSet, IsRow}
 
 -- ---- lists of words
 

@@ -8,7 +8,7 @@ use Rattle.nego_base.specs.LineGrammar.{IsNameWord}
 use Rattle.nego_base.specs.declared.op.Op.{Op}
 use Rattle.nego_base.specs.declared.op.Op.TheVariants.{Eq, Ne, Lt, Le, Gt, Ge}
 use Rattle.nego_base.specs.declared.line.Word.{Word}
-use Rattle.nego_base.specs.Printed.{IsPrintableWord, IsPrintable}
+use Rattle.nego_base.specs.Printed.{IsPrintableWord, IsPrintable, printed_line}
 use Rattle.nego_base.proofs.NameLaws.{each_where_all, name_printable, decimal_printable}
 use Rattle.nego_reader.specs.declared.parsed.PTest.{PTest}
 use Rattle.nego_reader.specs.declared.parsed.PRight.{PRight}
@@ -20,8 +20,7 @@ use Rattle.nego_reader.specs.Content.{texts}
 use Rattle.nego_reader.specs.Rows.{Row, HeaderRow, AgentRow, AtomRow, OutRow, CaseRow, NextRow, FirstRow, LastRow, EndRow}
 use Rattle.nego_reader.specs.Spelling.{op_text}
 use Rattle.nego_reader.specs.Printing.{right_text, test_text, term_text, set_text, row_words}
-use Rattle.nego_reader.proofs.Spacing.{spaced, printed_line_fits}
-use Rattle.nego_reader.proofs.SpelledRows.{IsRight, IsTest, IsTerm, IsSet, IsRow}
+use Rattle.nego_reader.specs.Printable.{IsRight, IsTest, IsTerm, IsSet, IsRow}
 
 -- ---- words
 
@@ -127,11 +126,11 @@ row_begins (FirstRow w) = (omega arith, λ e. omega arith)
 row_begins (LastRow w) = (omega arith, λ e. omega arith)
 row_begins EndRow = (omega arith, λ e. omega arith)
 
--- a row can be printed where there is room for its words
-pub row_fits : (row : Row) → IsRow row → spaced (row_words row) ≤ 1025 → IsPrintable (row_words row)
-row_fits row h room = record {
+-- a row can be printed where its line is short enough
+pub row_fits : (row : Row) → IsRow row → length (printed_line (row_words row)) ≤ 1024 → IsPrintable (row_words row)
+row_fits row h short = record {
   filled = (row_begins row).0;
   words = row_printable row h;
   no_comment = (row_begins row).1;
-  short = printed_line_fits (row_words row) 1024 room;
+  short = short;
 }

@@ -1,5 +1,5 @@
 -- What the rows have that lines spell, and how long they are printed.
-use Rattle.std.proofs.Common.{◌≡◌, ℕ, ◌+◌, ◌==◌, ◌<◌, ◌≤◌, List, [], ◌∷◌, ◌++◌, length, map, All, codes, decimal, inl, inr, refl, sym, ap, ◌∙◌, arith, append_assoc}
+use Rattle.std.proofs.Common.{◌≡◌, ℕ, ◌+◌, ◌==◌, ◌≤◌, List, [], ◌∷◌, ◌++◌, length, map, All, codes, decimal, inl, inr, refl, sym, ap, ◌∙◌, arith, append_assoc}
 use Rattle.std.proofs.lemmas.Bool.{cond-true, cond_both, eq-eqb}
 use Rattle.std.proofs.lemmas.List.{length-append, map-append}
 use Rattle.std.proofs.lemmas.List.Elements.{All-nil, All-cons}
@@ -16,38 +16,8 @@ use Rattle.nego_reader.specs.Content.{texts}
 use Rattle.nego_reader.specs.Rows.{Row, HeaderRow, AgentRow, AtomRow, OutRow, CaseRow, NextRow, FirstRow, LastRow, EndRow}
 use Rattle.nego_reader.specs.Spelling.{Each, op_text, SpellsRight, SpellsTest, SpellsSum, SpellsTerm, SpellsSet, Begins, SpellsLine}
 use Rattle.nego_reader.specs.Printing.{right_text, test_text, plus_text, term_text, set_text, row_words}
+use Rattle.nego_reader.specs.Printable.{IsRight, IsTest, IsTerm, IsSet, IsRow}
 use Rattle.nego_reader.proofs.Spacing.{spaced, spaced-append}
-
--- ---- what they have
-
-abbrev pub IsRight : PRight → Type 0
-IsRight (rights.Number n) = n ≤ 999999
-IsRight (rights.Name name) = IsNameWord name
-
-pub record IsTest (test : PTest) : Type 0 where
-  pub left : IsNameWord test.left
-  pub right : IsRight test.right
-
-abbrev pub IsTerm : PTerm → Type 0
-IsTerm terms.Any = Unit {0}
-IsTerm (terms.Number n) = n ≤ 999999
-IsTerm (terms.Plus name n) = IsNameWord name × (n ≤ 999999)
-IsTerm (terms.Minus name n) = IsNameWord name × (n ≤ 999999)
-
-pub record IsSet (set : PSet) : Type 0 where
-  pub agent : IsNameWord set.agent
-  pub term : IsTerm set.term
-
-abbrev pub IsRow : Row → Type 0
-IsRow HeaderRow = Unit {0}
-IsRow (AgentRow a) = IsNameWord a.name × (a.size ≤ 999999)
-IsRow (AtomRow name parties) = All IsNameWord (name ∷ parties)
-IsRow (OutRow name) = IsNameWord name
-IsRow (CaseRow c) = All IsTest c.tests × All IsSet c.sets
-IsRow (NextRow n) = All IsNameWord (n.atom ∷ n.agents) × (0 < length n.agents)
-IsRow (FirstRow name) = IsNameWord name
-IsRow (LastRow name) = IsNameWord name
-IsRow EndRow = Unit {0}
 
 -- ---- words
 

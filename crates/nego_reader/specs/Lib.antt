@@ -6,3 +6,4 @@ pub mod Answer
 pub mod Content
 pub mod Printing
 pub mod PrintedLines
+pub mod Printable

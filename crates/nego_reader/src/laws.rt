@@ -3,6 +3,7 @@
 ghost use Rattle.std.specs.Prelude.{◌≡◌, ◌⊎◌, ℕ, List};
 ghost use Rattle.nego_reader.specs.declared.parsed.Parsed.{Parsed};
 ghost use Rattle.nego_reader.specs.Content.{content_of};
+ghost use Rattle.nego_reader.specs.Printable.{IsPrintableDiagram};
 ghost use Rattle.nego_reader.specs.Printing.{printed_diagram};
 ghost use Rattle.nego_reader.specs.Spelling.{Spells};
 ghost use Rattle.nego_reader.specs.Table.{IsFirstFault};
@@ -20,9 +21,10 @@ pub fn texts_have_one_fault_or_none()
     ensures once { (bytes : List ℕ) (one two : Fault) → IsFirstFault bytes one → IsFirstFault bytes two → one ≡ two }
 {}
 
-/// The printed text of a diagram that some text spells spells it too: all but the places of its words. Diagrams that
-/// differ in these places alone are printed alike.
+/// The printed text of a diagram that can be printed spells it: all but the places of its words. What a text spells can be
+/// printed. Diagrams that differ in these places alone are printed alike.
 pub fn printed_diagrams_are_spelled()
-    ensures spelled { (text : List ℕ) (p : Parsed) → Spells text p → (q : Parsed) × Spells (printed_diagram p) q × (content_of q ≡ content_of p) }
+    ensures spelled { (p : Parsed) → IsPrintableDiagram p → (q : Parsed) × Spells (printed_diagram p) q × (content_of q ≡ content_of p) }
+    ensures printable { (text : List ℕ) (p : Parsed) → Spells text p → IsPrintableDiagram p }
     ensures alike { (p q : Parsed) → content_of p ≡ content_of q → printed_diagram p ≡ printed_diagram q }
 {}

@@ -6,6 +6,7 @@ ghost use Rattle.nego_reader.specs.declared.parsed.Parsed.{Parsed};
 ghost use Rattle.nego_reader.specs.Content.{texts, content_of};
 ghost use Rattle.nego_reader.specs.Rows.{AgentRow, CaseRow, NextRow, FirstRow, LastRow, EndRow, out_rows, atom_rows, rows_of};
 ghost use Rattle.nego_reader.specs.Spelling.{Spells, op_text};
+ghost use Rattle.nego_reader.specs.Printable.{IsPrintableDiagram};
 ghost use Rattle.nego_reader.specs.Printing.{right_text, test_text, plus_text, term_text, set_text, row_words, printed_diagram};
 ghost use Rattle.nego_reader.specs.PrintedLines.{behind_blanks, line_text, row_texts};
 
@@ -255,8 +256,8 @@ fn printed(alloc: Global, p: &Parsed) -> Result<Text, Memory>
 /// printed as the name.
 pub fn print_diagram(alloc: Global, p: &Parsed) -> Result<Text, Memory>
     ensures text { IfOk result (λ text. text ≡ printed_diagram p.now) }
-    // Where a text spells the diagram, what is printed spells it too, at other places.
-    ensures spelled { (text : List ℕ) → Spells text p.now → IfOk result (λ t. (q : Parsed) × Spells t q × (content_of q ≡ content_of p.now)) }
+    // What is printed spells the diagram, at other places.
+    ensures spelled { IsPrintableDiagram p.now → IfOk result (λ t. (q : Parsed) × Spells t q × (content_of q ≡ content_of p.now)) }
 {
     printed(alloc, p)
 }

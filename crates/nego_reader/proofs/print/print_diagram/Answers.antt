@@ -7,4 +7,4 @@ pub returns-clause-text : goal.returns-clause-text
 returns-clause-text c = subst (λ (t : List ℕ). IfOk c.printed.result (λ text. text ≡ t)) (diagram_printed c.args.p.now) c.printed.ensures
 
 pub returns-clause-spelled : goal.returns-clause-spelled
-returns-clause-spelled c = λ text h. printed_ok c.printed.result c.args.p.now text (returns-clause-text c) h
+returns-clause-spelled c = λ h. printed_ok c.printed.result c.args.p.now (returns-clause-text c) h
