@@ -6,6 +6,7 @@ pub mod Firsts
 pub mod GrammarLaws
 pub mod LineDemands
 pub mod LineFaults
+pub mod LineLoops
 pub mod LineLaws
 pub mod ListLaws
 pub mod Members

@@ -211,18 +211,18 @@ module _ {Known Kind Row Own : Type 0} (G : LineGrammar Known Kind Row Own) (row
       elim (bind_err (kind_of_line G row_of known line) (λ kind. row_of known kind line >>= λ row. walk_lines G row_of missing (G.behind known kind row) lines >>= λ rows. Ok (row ∷ rows)) fault h) [
         | inl stranger ↦ at_first missing known (line ∷ lines) fault (first.0, first.1, inl (kind_err known line first.0 fault first.1 stranger))
         | inr (kind, is, h') ↦ (
-          let stands = kind_ok known line kind first.0 first.1 is in
-          elim (bind_err (row_of known kind line) (λ row. walk_lines G row_of missing (G.behind known kind row) lines >>= λ rows. Ok (row ∷ rows)) fault h') [
-            | inl short ↦ at_first missing known (line ∷ lines) fault (first.0, first.1, inr (kind, stands.0, stands.1, subst (Answers G.Is line (G.demands known kind line)) short (reads.answers known kind line)))
-            | inr (row, row_is, h'') ↦ (
-              let says = reads.takes known kind line first.0 row first.1 stands.1 row_is in
-              elim (bind_err (walk_lines G row_of missing (G.behind known kind row) lines) (λ rows. Ok (row ∷ rows)) fault h'') [
-                | inl later ↦ one_more missing known line lines row fault (subst (Contains (G.may_stand known)) (sym says.1) stands.0) says.0
-                  (walk_finds missing (behind_row G known row) lines fault (All-tail (λ l. 0 < length l.words) line lines filled)
-                  (subst (λ (k : Kind). walk_lines G row_of missing (G.behind known k row) lines ≡ Err fault) (sym says.1) later))
-                | inr (rows, rows_are, over) ↦ absurd (ok-err {E = Fault} (row ∷ rows) fault over)
-              ])
-          ])
+            let stands = kind_ok known line kind first.0 first.1 is in
+            elim (bind_err (row_of known kind line) (λ row. walk_lines G row_of missing (G.behind known kind row) lines >>= λ rows. Ok (row ∷ rows)) fault h') [
+              | inl short ↦ at_first missing known (line ∷ lines) fault (first.0, first.1, inr (kind, stands.0, stands.1, subst (Answers G.Is line (G.demands known kind line)) short (reads.answers known kind line)))
+              | inr (row, row_is, h'') ↦ (
+                  let says = reads.takes known kind line first.0 row first.1 stands.1 row_is in
+                  elim (bind_err (walk_lines G row_of missing (G.behind known kind row) lines) (λ rows. Ok (row ∷ rows)) fault h'') [
+                    | inl later ↦ one_more missing known line lines row fault (subst (Contains (G.may_stand known)) (sym says.1) stands.0) says.0
+                        (walk_finds missing (behind_row G known row) lines fault (All-tail (λ l. 0 < length l.words) line lines filled)
+                        (subst (λ (k : Kind). walk_lines G row_of missing (G.behind known k row) lines ≡ Err fault) (sym says.1) later))
+                    | inr (rows, rows_are, over) ↦ absurd (ok-err {E = Fault} (row ∷ rows) fault over)
+                  ])
+            ])
       ]
 
   pub walk_says : (missing : Fault) (known : Known) (lines : List Line) (rows : List Row) → Filled lines → walk_lines G row_of missing known lines ≡ Ok rows →

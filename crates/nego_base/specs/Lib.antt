@@ -3,6 +3,7 @@ pub mod Bits
 pub mod Firsts
 pub mod Grammar
 pub mod Lends
+pub mod LineAnswers
 pub mod LineGrammar
 pub mod LineWalk
 pub mod Lines

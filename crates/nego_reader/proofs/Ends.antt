@@ -12,7 +12,7 @@ use Rattle.nego_base.specs.Grammar.{at_word, past_line, exact_words}
 use Rattle.nego_base.specs.Results.{◌>>=◌}
 use Rattle.nego_reader.specs.Rows.{Kind, Nego, First, Last, End, Row, HeaderRow, FirstRow, LastRow, EndRow, keyword, followers}
 use Rattle.nego_reader.specs.Reading.{header_in, named_in, row_of, walk, line_at, header_at, nothing_at, end_at, last_at, ends_at}
-use Rattle.nego_reader.specs.Answer.{onto}
+use Rattle.nego_base.specs.LineAnswers.{onto}
 
 -- ---- chains of steps
 

@@ -5,7 +5,6 @@ pub mod LineDemands
 pub mod Ends
 pub mod Fitting
 pub mod LineSpelling
-pub mod Loops
 pub mod Orders
 pub mod PlacedDiagram
 pub mod PlacedRows

@@ -32,7 +32,7 @@ use Rattle.nego_reader.specs.declared.parsed.PSet.{PSet}
 use Rattle.nego_reader.specs.Rows.{Kind, Nego, Agent, Atom, Out, Case, Next, First, Last, End, Row, HeaderRow, AgentRow, AtomRow, OutRow, CaseRow, NextRow, FirstRow, LastRow, EndRow, keyword, kind_of}
 use Rattle.nego_reader.specs.Spelling.{Each, SpellsTest, SpellsSet, Begins, SpellsLine}
 use Rattle.nego_reader.specs.Reading.{name_of, name_in, header_in, agent_in, named_in, names_in, next_in, in_case, sides_of, case_in, test_of, set_of, row_of}
-use Rattle.nego_reader.proofs.Loops.{cut_at}
+use Rattle.nego_base.proofs.LineLoops.{cut_at}
 use Rattle.nego_reader.proofs.Eaches.{each_takes, each_again}
 use Rattle.nego_reader.proofs.WordSpelling.{guard_ok, in_case_ok, same_bytes, test_takes, test_again, set_takes, set_again, test_no_colon, set_no_colon}
 

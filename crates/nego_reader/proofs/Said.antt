@@ -14,7 +14,8 @@ use Rattle.nego_base.proofs.LineFaults.{Reads, fault_read, text_read, text_again
 use Rattle.nego_reader.specs.declared.parsed.Parsed.{Parsed}
 use Rattle.nego_reader.specs.Rows.{Row, Nego, rows_of}
 use Rattle.nego_reader.specs.Reading.{row_in, walk}
-use Rattle.nego_reader.specs.Answer.{Gives, ReadHasCause, SpellsNothing}
+use Rattle.nego_base.specs.LineAnswers.{Gives}
+use Rattle.nego_reader.specs.Answer.{ReadHasCause, SpellsNothing}
 use Rattle.nego_reader.specs.Spelling.{Spells}
 use Rattle.nego_reader.specs.Table.{diagram_lines, IsFirstFault}
 use Rattle.nego_reader.proofs.Built.{same_diagram}

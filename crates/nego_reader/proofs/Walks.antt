@@ -17,8 +17,9 @@ use Rattle.nego_base.specs.Grammar.{at_word, past_line}
 use Rattle.nego_base.specs.Results.{◌>>=◌}
 use Rattle.nego_reader.specs.Rows.{Kind, Row, keyword, followers}
 use Rattle.nego_reader.specs.Reading.{kind_in, row_of, walk}
-use Rattle.nego_reader.specs.Answer.{onto, Fails, FitsLine, begins, ReadsTo}
-use Rattle.nego_reader.proofs.Loops.{onto_onto, onto_nil, fails_onto}
+use Rattle.nego_base.specs.LineAnswers.{onto, Fails, FitsLine}
+use Rattle.nego_reader.specs.Answer.{begins, ReadsTo}
+use Rattle.nego_base.proofs.LineLoops.{onto_onto, onto_nil, fails_onto}
 
 -- ---- one line
 

@@ -10,8 +10,9 @@ use Rattle.nego_reader.specs.declared.parsed.PAgent.{PAgent}
 use Rattle.nego_reader.specs.declared.parsed.PAtom.{PAtom}
 use Rattle.nego_reader.specs.Rows.{Nego, Agent, Atom, First, Row, HeaderRow, AgentRow, FirstRow, LastRow, EndRow, atom_rows, rows_of}
 use Rattle.nego_reader.specs.Reading.{walk, header_at, ends_at}
-use Rattle.nego_reader.specs.Answer.{onto, Fails, ReadsTo}
-use Rattle.nego_reader.proofs.Loops.{onto_onto, fails_onto}
+use Rattle.nego_base.specs.LineAnswers.{onto, Fails}
+use Rattle.nego_reader.specs.Answer.{ReadsTo}
+use Rattle.nego_base.proofs.LineLoops.{onto_onto, fails_onto}
 use Rattle.nego_reader.proofs.Walks.{then, then_fails}
 use Rattle.nego_reader.proofs.Ends.{header_is, ends_is}
 

@@ -6,21 +6,12 @@ ghost use Rattle.nego_reader.specs.Table.{is_colon};
 ghost use Rattle.nego_base.specs.LineWalk.{each, word_in};
 ghost use Rattle.nego_base.specs.Grammar.{exact_words};
 ghost use Rattle.nego_reader.specs.Reading.{name_of, name_in, header_in, agent_in, named_in, names_in, next_in, sides_of, case_in, test_of, set_of};
-ghost use Rattle.nego_reader.specs.Answer.{Gives, Tells, FitsWord, FitsLine};
+ghost use Rattle.nego_base.specs.LineAnswers.{Gives, Tells, FitsWord, FitsLine};
 
 use crate::parsed::{PAgent, PCase, PNext, PSet, PTest};
 use crate::words::{set_of, test_of};
-use nego_base::{Fault, FaultKind, Line, Memory, ReadFaults, Seq, Text, Word};
+use nego_base::{Fault, FaultKind, Line, ReadFaults, Seq, Word};
 use std::alloc::Global;
-
-/// The word at a place of the line, counted from 0.
-#[tactic(auto, unfolding(nego_base::specs::LineWalk::word_in))]
-pub(crate) fn word_in(line: &Line, i: usize) -> Result<&Word, Fault>
-    requires { FitsLine line.now }
-    ensures { Tells (λ word. word.now) result (word_in line.now i) }
-{
-    line.words.get(i).ok_or(line.past_end(FaultKind::Count))
-}
 
 /// The words of the line from place n on.
 #[tactic(auto, using(crate::proofs::Fitting::fit_behind))]
@@ -33,24 +24,13 @@ fn words_from(line: &Line, n: usize) -> &[Word]
     &words[n.min(words.len())..]
 }
 
-/// The same word.
-fn copied(alloc: Global, word: &Word) -> Result<Word, Memory>
-    ensures { IfOk result (λ copy. copy ≡ word.now) }
-{
-    Ok(Word {
-        line: word.line,
-        column: word.column,
-        text: Text::copy(alloc, word.text.as_slice())?,
-    })
-}
-
 /// The name that the word is.
 #[tactic(auto, unfolding(crate::specs::Reading::name_of))]
 fn name_of(alloc: Global, word: &Word) -> Result<Word, ReadFaults>
     ensures { Gives (λ name. name) result (name_of word.now) }
 {
     word.name()?;
-    Ok(copied(alloc, word)?)
+    Ok(word.copied(alloc)?)
 }
 
 /// The name at a place of the line.
@@ -59,7 +39,7 @@ fn name_in(alloc: Global, line: &Line, i: usize) -> Result<Word, ReadFaults>
     requires { FitsLine line.now }
     ensures { Gives (λ name. name) result (name_in line.now i) }
 {
-    let word = word_in(line, i)?;
+    let word = line.word(i)?;
     name_of(alloc, word)
 }
 
@@ -70,7 +50,7 @@ pub(crate) fn header_in(line: &Line) -> Result<(), Fault>
     ensures { Tells (λ _. tt) result (header_in line.now) }
 {
     line.exactly(2)?;
-    let version = word_in(line, 1)?;
+    let version = line.word(1)?;
     if version.is(b"1") {
         Ok(())
     } else {
@@ -86,7 +66,7 @@ pub(crate) fn agent_in(alloc: Global, line: &Line) -> Result<PAgent, ReadFaults>
 {
     line.exactly(3)?;
     let name = name_in(alloc, line, 1)?;
-    let size = word_in(line, 2)?.number()?;
+    let size = line.word(2)?.number()?;
     Ok(PAgent { name, size })
 }
 
@@ -205,7 +185,7 @@ pub(crate) fn case_in(alloc: Global, line: &Line) -> Result<PCase, ReadFaults>
     ensures { Gives (λ case. case) result (case_in line.now) }
 {
     line.at_least(2)?;
-    let first = word_in(line, 0)?;
+    let first = line.word(0)?;
     let sides = sides_of(words_from(line, 1));
     let (tests, sets) = sides.ok_or(first.fault(FaultKind::Case))?;
     let tests = tests_of(alloc, tests)?;

@@ -7,11 +7,12 @@ ghost use Rattle.nego_base.specs.declared.fault.Fault.{Fault};
 ghost use Rattle.nego_base.specs.declared.line.Line.{Line};
 ghost use Rattle.nego_reader.specs.Rows.{Kind, Nego, Agent, Atom, Out, Case, Next, First, Last, End, Row, AgentRow, CaseRow, NextRow, out_rows, atom_rows, rows_of, keyword};
 ghost use Rattle.nego_reader.specs.Reading.{walk, line_at, header_at, nothing_at, end_at, last_at, ends_at};
-ghost use Rattle.nego_reader.specs.Answer.{Gives, Tells, Goes, FitsLine, begins};
+ghost use Rattle.nego_base.specs.LineAnswers.{Gives, Tells, FitsLine};
+ghost use Rattle.nego_reader.specs.Answer.{Goes, begins};
 
-use crate::lines::{agent_in, case_in, header_in, named_in, names_in, next_in, word_in};
+use crate::lines::{agent_in, case_in, header_in, named_in, names_in, next_in};
 use crate::parsed::{PAgent, PAtom, PCase, PNext, POut, Parsed};
-use nego_base::{Fault, FaultKind, Line, ReadFaults, Seq, Word};
+use nego_base::{Fault, FaultKind, Line, ReadFaults, Seq, Word, missing_end};
 use std::alloc::Global;
 
 /// The first line and those behind it, where the first begins with this word.
@@ -147,18 +148,6 @@ fn atoms(alloc: Global, lines: &[Line]) -> Result<(Seq<PAtom>, &[Line]), ReadFau
     Ok((atoms, rest))
 }
 
-/// The fault of a text of so many lines that has no line `end`, on the line behind its last.
-fn missing_end(count: u32) -> Fault
-    requires { count < 2 ^ 32 - 1 }
-    ensures { result ≡ missing_end count }
-{
-    Fault {
-        line: count + 1,
-        column: 1,
-        kind: FaultKind::Word,
-    }
-}
-
 /// The first line, whose first word must be this one, and the lines behind it.
 #[tactic(auto, unfolding(crate::specs::Reading::line_at))]
 fn line_at<'a>(
@@ -174,7 +163,7 @@ fn line_at<'a>(
     let [line, rest @ ..] = lines else {
         return Err(missing);
     };
-    let word = word_in(line, 0)?;
+    let word = line.word(0)?;
     if word.is(first) {
         Ok((line, rest))
     } else {
@@ -203,7 +192,7 @@ fn nothing_at(lines: &[Line]) -> Result<(), Fault>
     let [line, ..] = lines else {
         return Ok(());
     };
-    Err(word_in(line, 0)?.fault(FaultKind::Word))
+    Err(line.word(0)?.fault(FaultKind::Word))
 }
 
 /// That the line `end` comes, and no other behind it.

@@ -3,7 +3,7 @@
 ghost use Rattle.std.specs.Prelude.{◌≡◌, ◌+◌, ◌<◌, ◌≤◌, ◌^◌, length, not, position, option_map, IfOk, IfSome};
 ghost use Rattle.nego_base.specs.Name.{is_name_byte};
 ghost use Rattle.nego_reader.specs.Reading.{name_end, sign_end, op_of, name_at, right_at, test_at, test_of, sum_of, sum_at, term_at, behind, set_of};
-ghost use Rattle.nego_reader.specs.Answer.{Gives, Tells, FitsWord};
+ghost use Rattle.nego_base.specs.LineAnswers.{Gives, Tells, FitsWord};
 
 use crate::parsed::{PRight, PSet, PTerm, PTest};
 use nego_base::{Fault, FaultKind, Memory, Op, ReadFaults, Text, Word, is_name, number_of};

@@ -1,7 +1,7 @@
 use Rattle.std.proofs.lemmas.Result.{err_from_is_err_and}
 use Rattle.nego_base.specs.LineWalk.{each}
 use Rattle.nego_reader.specs.Reading.{name_of}
-use Rattle.nego_reader.proofs.Loops.{each_goes_on, each_stops, each_done}
+use Rattle.nego_base.proofs.LineLoops.{each_goes_on, each_stops, each_done}
 use Rattle.nego_reader.proofs.lines.names_of.Goals as goal
 
 pub returns-in_err-name_of : goal.returns-in_err-name_of

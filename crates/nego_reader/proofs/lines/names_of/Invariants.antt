@@ -1,7 +1,7 @@
 use Rattle.std.proofs.Common.{◌≡◌, drop}
 use Rattle.nego_base.specs.LineWalk.{each}
 use Rattle.nego_reader.specs.Reading.{name_of}
-use Rattle.nego_reader.specs.Answer.{onto}
+use Rattle.nego_base.specs.LineAnswers.{onto}
 use Rattle.nego_reader.proofs.lines.names_of.Given as goal
 
 abbrev pub invariant-loop-word : goal.invariant-loop-word
