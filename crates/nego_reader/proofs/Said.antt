@@ -62,8 +62,8 @@ spelled_sound bytes p fault h k = fault_or_text diagram_lines row_in reads bytes
 pub spelled_else_fault : (bytes : List ℕ) → ((p : Parsed) × Spells bytes p) ⊎ ((fault : Fault) × IsFirstFault bytes fault)
 spelled_else_fault bytes = elim (fault_else_text diagram_lines row_in reads bytes) [
   | inl text ↦ (
-    let p = order_diagram text.0 (say_order (Nego ∷ []) (scanned bytes) text.0 text.1.say text.1.ends) in
-    inl (p.0, text_spelled bytes p.0 (subst (IsTextOf diagram_lines bytes) p.1 text.1)))
+      let p = order_diagram text.0 (say_order (Nego ∷ []) (scanned bytes) text.0 text.1.say text.1.ends) in
+      inl (p.0, text_spelled bytes p.0 (subst (IsTextOf diagram_lines bytes) p.1 text.1)))
   | inr fault ↦ inr fault
 ]
 

@@ -11,7 +11,7 @@ use std::test::Fail;
 /// A text, and its fault's line, column and kind.
 type Row = (&'static [u8], Option<(u32, u32, FaultKind)>);
 
-static ROWS: [Row; 47] = [
+static ROWS: [Row; 51] = [
     (
         b"nego 1\nagent a 2\natom m a\nout x\ncase a=0 a!=b a<1 a<=b a>2 a>=999999 : a:=* b:=0 c:=b d:=b+0 e:=b+7 f:=b-7\nnext m a b\nfirst m\nlast m\nend\n",
         None,
@@ -40,6 +40,7 @@ static ROWS: [Row; 47] = [
     ),
     (b"nego 1\natom\n", Some((2, 5, FaultKind::Count))),
     (b"nego 1\natom m a B\n", Some((2, 10, FaultKind::Name))),
+    (b"nego 1\natom M A B\n", Some((2, 6, FaultKind::Name))),
     (
         b"nego 1\natom m a\nagent b 1\n",
         Some((3, 1, FaultKind::Word)),
@@ -86,6 +87,18 @@ static ROWS: [Row; 47] = [
     (
         b"nego 1\natom m a\nout x\ncase : a:=0 a:=b+c\n",
         Some((4, 13, FaultKind::Case)),
+    ),
+    (
+        b"nego 1\natom m a\nout x\ncase a=01 b=01 :\n",
+        Some((4, 6, FaultKind::Case)),
+    ),
+    (
+        b"nego 1\natom m a\nout x\ncase : a:=A b:=B\n",
+        Some((4, 8, FaultKind::Case)),
+    ),
+    (
+        b"nego 1\natom m a\nout x\nnext M A\n",
+        Some((4, 6, FaultKind::Name)),
     ),
     (
         b"nego 1\natom m a\nout x\nnext m\n",

@@ -14,8 +14,10 @@ use Rattle.nego_shape.specs.declared.fault.ShapeAnswer.{ShapeAnswer}
 use Rattle.nego_shape.specs.declared.fault.ShapeAnswer.TheVariants as answers
 use Rattle.nego_shape.specs.Answer.{HasCause, LacksShape}
 use Rattle.nego_shape.specs.Naming.{sizes_in, cases_in}
-use Rattle.nego_shape.specs.Shaped.{IsFormed, IsShaped, IsAllCovered}
+use Rattle.nego_shape.specs.Conditions.{AllCovered, IsFormed, HasShape}
+use Rattle.nego_shape.specs.Shaped.{IsAllCovered}
 use Rattle.nego_shape.specs.Faults.{fault_on, no_agent, too_many, twice, twice_in, unknown, unknown_in, no_party, no_outcome, lacks, party_fault, next_fault, broken, size_fault, inner_fault, form_fault, first_uncovered, not_total_at, not_total_among, not_total_from, not_total, shape_fault}
+use Rattle.nego_shape.proofs.ConditionLaws.{shape_form}
 use Rattle.nego_shape.proofs.SoundShape.{first_is_none}
 use Rattle.nego_shape.proofs.FaultlessSearches.{both_none, none_mapped, none_numbered}
 use Rattle.nego_shape.proofs.FaultlessPlaces.{each_placed}
@@ -57,10 +59,10 @@ none_partial p o (atom ∷ atoms) h =
     (none_partial p (o + length atom.outs) atoms (All-tail (λ (x : PAtom). All (λ (out : POut). IsAllCovered (content_of p) (out_content out)) x.outs) atom atoms h))
 
 -- the shape leaves no fault
-pub faultless_shape : (p : Parsed) → IsShaped (content_of p) → shape_fault p ≡ None
+pub faultless_shape : (p : Parsed) → HasShape (content_of p) → shape_fault p ≡ None
 faultless_shape p h =
-    both_none (form_fault p) (not_total p) (none_of_form p h.form)
-    (none_partial p 0 p.atoms (λ k d l. each_placed (λ n (out : OutContent). IsAllCovered (content_of p) out) p h.covered k (get_or p.atoms k d) (slice_get-get_or p.atoms k d l)))
+    both_none (form_fault p) (not_total p) (none_of_form p (shape_form (content_of p) h))
+    (none_partial p 0 p.atoms (λ k d l. each_placed (λ n (out : OutContent). IsAllCovered (content_of p) out) p (h AllCovered) k (get_or p.atoms k d) (slice_get-get_or p.atoms k d l)))
 
 -- so a text that has a fault hasn't the shape
 pub lacks_shape : (p : Parsed) (e : ShapeAnswer) → HasCause e p → LacksShape e p

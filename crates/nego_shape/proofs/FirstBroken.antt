@@ -1,4 +1,4 @@
--- A told fault of shape is of the first kind whose condition is broken.
+-- A told fault of shape breaks the first condition that is broken.
 use Rattle.std.proofs.Common.{◌≡◌, ℕ, ◌<◌, ◌≤◌, ◌==◌, nat_lt, false, List, length, map, Some, None, slice_get, sym, subst, ◌∙◌, arith, lit<}
 use Rattle.std.proofs.lemmas.Bool.Decides.{nat_tests}
 use Rattle.std.proofs.lemmas.Option.{none-some, slice_get_past}
@@ -14,9 +14,9 @@ use Rattle.nego_reader.specs.Content.{AgentContent, content_of, agent_content, a
 use Rattle.nego_shape.specs.declared.fault.Many.{Many}
 use Rattle.nego_shape.specs.declared.fault.Many.TheVariants as many
 use Rattle.nego_shape.specs.declared.fault.ShapeFault.{ShapeFault}
-use Rattle.nego_shape.specs.declared.fault.ShapeKind.{ShapeKind}
 use Rattle.nego_shape.specs.declared.fault.ShapeKind.TheVariants as kinds
-use Rattle.nego_shape.specs.Broken.{rank_of, Meets, IsFirstBroken}
+use Rattle.nego_shape.specs.Conditions.{Condition, SomeAgent, FewAgents, FewAtoms, FewOutcomes, NamedOnce, AllDeclared, SomeParty, SomeOutcome, AllBegin, AllEnd, AllSent, NoStranger, LastEnds, PartiesAlone, NoZeroSize, NoLargeSize, NoLargeJoint, NoLargeValue, AllCovered, Holds, condition_of, IsFirstBroken}
+use Rattle.nego_shape.proofs.ConditionLaws.{place, first_at, form_shape}
 use Rattle.nego_shape.specs.Naming.{sizes_in}
 use Rattle.nego_shape.specs.Shaped.{AreNamedOnce, AreAllDeclared}
 use Rattle.nego_shape.specs.Faults.{fault_on, past, out_names, twice_in, unknown_in, zero_size, zero_size_at, size_too_large, size_too_large_at, joint_too_large, form_fault, not_total, shape_fault}
@@ -89,30 +89,30 @@ module _ (p : Parsed) where
   pub declared_below : (n : ℕ) → 5 < n → NoneBelow n → AreAllDeclared (content_of p)
   declared_below n l none = all_declared p (known_below n l none)
 
-  -- where no check up to that of a kind gives a fault, the kind's condition is met
-  met : (kind : ShapeKind) → NoneBelow (rank_of kind) → check p (rank_of kind) ≡ None → Meets (content_of p) kind
-  met kinds.NoAgent none h = some_agent p.agents h
-  met (kinds.TooMany many.Agents) none h = few_agents h
-  met (kinds.TooMany many.Atoms) none h = subst (λ n. n ≤ 64) atoms_count (few 64 many.Atoms (map (λ (atom : PAtom). atom.name) p.atoms) h)
-  met (kinds.TooMany many.Outcomes) none h = subst (λ n. n ≤ 256) (sym (outs-count 0 p.atoms)) (few 256 many.Outcomes (out_names p.atoms) h)
-  met (kinds.Twice name) none h = named_once p (map_none (λ word. fault_on word.line (kinds.Twice word.text)) (twice_in p) h)
-  met (kinds.Unknown name) none h = all_declared p (map_none (λ word. fault_on word.line (kinds.Unknown word.text)) (unknown_in p) h)
-  met (kinds.NoParty n) none h = some_party p.atoms h
-  met (kinds.NoOutcome n) none h = some_outcome p.atoms h
-  met (kinds.FirstLacks a) none h = all_at p (once_below 8 (lit< tt) none) (known_below 8 (lit< tt) none) kinds.FirstLacks p.first h
-  met (kinds.LastLacks a) none h = all_at p (once_below 9 (lit< tt) none) (known_below 9 (lit< tt) none) kinds.LastLacks p.last h
-  met (kinds.NextMissing o a) none h = all_sent p (once_below 10 (lit< tt) none) (known_below 10 (lit< tt) none) h
-  met (kinds.NextStranger o a n) none h = no_stranger p (once_below 11 (lit< tt) none) (known_below 11 (lit< tt) none) h
-  met (kinds.LastLeads o) none h = last_ends p (once_below 12 (lit< tt) none) (known_below 12 (lit< tt) none) h
-  met (kinds.NotParty o a) none h = parties_alone p (once_below 13 (lit< tt) none) (known_below 13 (lit< tt) none) h
-  met (kinds.ZeroSize a) none h = all_positive h
-  met (kinds.SizeTooLarge a) none h = all_small h
-  met (kinds.JointTooLarge a) none h = (sizes_fit p.agents (some_agent p.agents (none 0 (lit< tt))) (few_agents (none 1 (lit< tt))) (none 14 (lit< tt)) (none 15 (lit< tt)) h).together
-  met (kinds.ValueTooLarge o a) none h = below p (once_below 17 (lit< tt) none) (known_below 17 (lit< tt) none) h
-  met (kinds.NotTotal o d) none h = total p h
+  -- where no check up to that of a condition gives a fault, it is met
+  met : (condition : Condition) → NoneBelow (place condition) → check p (place condition) ≡ None → Holds condition (content_of p)
+  met SomeAgent none h = some_agent p.agents h
+  met FewAgents none h = few_agents h
+  met FewAtoms none h = subst (λ n. n ≤ 64) atoms_count (few 64 many.Atoms (map (λ (atom : PAtom). atom.name) p.atoms) h)
+  met FewOutcomes none h = subst (λ n. n ≤ 256) (sym (outs-count 0 p.atoms)) (few 256 many.Outcomes (out_names p.atoms) h)
+  met NamedOnce none h = named_once p (map_none (λ word. fault_on word.line (kinds.Twice word.text)) (twice_in p) h)
+  met AllDeclared none h = all_declared p (map_none (λ word. fault_on word.line (kinds.Unknown word.text)) (unknown_in p) h)
+  met SomeParty none h = some_party p.atoms h
+  met SomeOutcome none h = some_outcome p.atoms h
+  met AllBegin none h = all_at p (once_below 8 (lit< tt) none) (known_below 8 (lit< tt) none) kinds.FirstLacks p.first h
+  met AllEnd none h = all_at p (once_below 9 (lit< tt) none) (known_below 9 (lit< tt) none) kinds.LastLacks p.last h
+  met AllSent none h = all_sent p (once_below 10 (lit< tt) none) (known_below 10 (lit< tt) none) h
+  met NoStranger none h = no_stranger p (once_below 11 (lit< tt) none) (known_below 11 (lit< tt) none) h
+  met LastEnds none h = last_ends p (once_below 12 (lit< tt) none) (known_below 12 (lit< tt) none) h
+  met PartiesAlone none h = parties_alone p (once_below 13 (lit< tt) none) (known_below 13 (lit< tt) none) h
+  met NoZeroSize none h = all_positive h
+  met NoLargeSize none h = all_small h
+  met NoLargeJoint none h = (sizes_fit p.agents (some_agent p.agents (none 0 (lit< tt))) (few_agents (none 1 (lit< tt))) (none 14 (lit< tt)) (none 15 (lit< tt)) h).together
+  met NoLargeValue none h = below p (once_below 17 (lit< tt) none) (known_below 17 (lit< tt) none) h
+  met AllCovered none h = total p h
 
   -- no product is too large where that of all sizes isn't
-  none_joint : NoneBelow 16 → Meets (content_of p) (kinds.JointTooLarge (record { 0 = 0 })) → joint_too_large p.agents ≡ None
+  none_joint : NoneBelow 16 → Holds NoLargeJoint (content_of p) → joint_too_large p.agents ≡ None
   none_joint none h =
       let positive = all_positive (none 14 (lit< tt)) in
       let small = all_small (none 15 (lit< tt)) in
@@ -120,37 +120,35 @@ module _ (p : Parsed) where
       (or_none (zero_size p.agents) (option_or (size_too_large p.agents) (joint_too_large p.agents)) (none_of_bounds p (λ k d l. (positive k d l, small k d l)) h)).1).1
 
   -- no outcome is partial where all cover
-  none_partial : NoneBelow 18 → Meets (content_of p) (kinds.NotTotal (record { 0 = 0 }) 0) → not_total p ≡ None
+  none_partial : NoneBelow 18 → Holds AllCovered (content_of p) → not_total p ≡ None
   none_partial none h =
       let formed = none_of rank (check p) 0 18 (form_fault p) (form_made p) (λ k l m. none k m) in
-      (or_none (form_fault p) (not_total p) (faultless_shape p (record { form = shaped_form p formed; covered = h }))).1
+      (or_none (form_fault p) (not_total p) (faultless_shape p (form_shape (content_of p) (shaped_form p formed) h))).1
 
-  -- where no check before that of a kind gives a fault, and the kind's condition is met, its check gives none
-  none_met : (kind : ShapeKind) → NoneBelow (rank_of kind) → Meets (content_of p) kind → check p (rank_of kind) ≡ None
-  none_met kinds.NoAgent none h = some_agents p.agents h
-  none_met (kinds.TooMany many.Agents) none h = none_past 16 many.Agents (map (λ (agent : PAgent). agent.name) p.agents) (subst (λ n. n ≤ 16) (sym agents_count) h)
-  none_met (kinds.TooMany many.Atoms) none h = none_past 64 many.Atoms (map (λ (atom : PAtom). atom.name) p.atoms) (subst (λ n. n ≤ 64) (sym atoms_count) h)
-  none_met (kinds.TooMany many.Outcomes) none h = none_past 256 many.Outcomes (out_names p.atoms) (subst (λ n. n ≤ 256) (outs-count 0 p.atoms) h)
-  none_met (kinds.Twice name) none h = none_mapped (λ word. fault_on word.line (kinds.Twice word.text)) (twice_in p) (none_in p h)
-  none_met (kinds.Unknown name) none h = none_mapped (λ word. fault_on word.line (kinds.Unknown word.text)) (unknown_in p) (none_unknown p h)
-  none_met (kinds.NoParty n) none h = none_without_party p.atoms h
-  none_met (kinds.NoOutcome n) none h = none_without_outcome p.atoms h
-  none_met (kinds.FirstLacks a) none h = none_lacks p (once_below 8 (lit< tt) none) (declared_below 8 (lit< tt) none) kinds.FirstLacks p.first (declared_below 8 (lit< tt) none).first h
-  none_met (kinds.LastLacks a) none h = none_lacks p (once_below 9 (lit< tt) none) (declared_below 9 (lit< tt) none) kinds.LastLacks p.last (declared_below 9 (lit< tt) none).last h
-  none_met (kinds.NextMissing o a) none h = none_missing p (once_below 10 (lit< tt) none) (declared_below 10 (lit< tt) none) h
-  none_met (kinds.NextStranger o a n) none h = none_strange p (once_below 11 (lit< tt) none) (declared_below 11 (lit< tt) none) h
-  none_met (kinds.LastLeads o) none h = none_leads p (once_below 12 (lit< tt) none) (declared_below 12 (lit< tt) none) h
-  none_met (kinds.NotParty o a) none h = none_outside p (once_below 13 (lit< tt) none) (known_below 13 (lit< tt) none) h
-  none_met (kinds.ZeroSize a) none h = none_zero p.agents (from_sizes (λ size. 0 < size) p h)
-  none_met (kinds.SizeTooLarge a) none h = none_large p.agents (from_sizes (λ size. size ≤ 64) p h)
-  none_met (kinds.JointTooLarge a) none h = none_joint none h
-  none_met (kinds.ValueTooLarge o a) none h = none_overfull p (once_below 17 (lit< tt) none) (known_below 17 (lit< tt) none) h
-  none_met (kinds.NotTotal o d) none h = none_partial none h
+  -- where no check before that of a condition gives a fault, and it is met, its check gives none
+  none_met : (condition : Condition) → NoneBelow (place condition) → Holds condition (content_of p) → check p (place condition) ≡ None
+  none_met SomeAgent none h = some_agents p.agents h
+  none_met FewAgents none h = none_past 16 many.Agents (map (λ (agent : PAgent). agent.name) p.agents) (subst (λ n. n ≤ 16) (sym agents_count) h)
+  none_met FewAtoms none h = none_past 64 many.Atoms (map (λ (atom : PAtom). atom.name) p.atoms) (subst (λ n. n ≤ 64) (sym atoms_count) h)
+  none_met FewOutcomes none h = none_past 256 many.Outcomes (out_names p.atoms) (subst (λ n. n ≤ 256) (outs-count 0 p.atoms) h)
+  none_met NamedOnce none h = none_mapped (λ word. fault_on word.line (kinds.Twice word.text)) (twice_in p) (none_in p h)
+  none_met AllDeclared none h = none_mapped (λ word. fault_on word.line (kinds.Unknown word.text)) (unknown_in p) (none_unknown p h)
+  none_met SomeParty none h = none_without_party p.atoms h
+  none_met SomeOutcome none h = none_without_outcome p.atoms h
+  none_met AllBegin none h = none_lacks p (once_below 8 (lit< tt) none) (declared_below 8 (lit< tt) none) kinds.FirstLacks p.first (declared_below 8 (lit< tt) none).first h
+  none_met AllEnd none h = none_lacks p (once_below 9 (lit< tt) none) (declared_below 9 (lit< tt) none) kinds.LastLacks p.last (declared_below 9 (lit< tt) none).last h
+  none_met AllSent none h = none_missing p (once_below 10 (lit< tt) none) (declared_below 10 (lit< tt) none) h
+  none_met NoStranger none h = none_strange p (once_below 11 (lit< tt) none) (declared_below 11 (lit< tt) none) h
+  none_met LastEnds none h = none_leads p (once_below 12 (lit< tt) none) (declared_below 12 (lit< tt) none) h
+  none_met PartiesAlone none h = none_outside p (once_below 13 (lit< tt) none) (known_below 13 (lit< tt) none) h
+  none_met NoZeroSize none h = none_zero p.agents (from_sizes (λ size. 0 < size) p h)
+  none_met NoLargeSize none h = none_large p.agents (from_sizes (λ size. size ≤ 64) p h)
+  none_met NoLargeJoint none h = none_joint none h
+  none_met NoLargeValue none h = none_overfull p (once_below 17 (lit< tt) none) (known_below 17 (lit< tt) none) h
+  none_met AllCovered none h = none_partial none h
 
-  pub first_broken : (fault : ShapeFault) → shape_fault p ≡ Some fault → IsFirstBroken (content_of p) fault.kind
+  pub first_broken : (fault : ShapeFault) → shape_fault p ≡ Some fault → IsFirstBroken (content_of p) (condition_of fault.kind)
   first_broken fault h =
       let first = (all_made p).some fault h in
-      record {
-        broken = λ k. none-some fault (sym (none_met fault.kind (λ n l. first.before n (omega arith) l) k) ∙ first.here);
-        before = λ other l. met other (λ n m. first.before n (omega arith) (omega (arith, m, l))) (first.before (rank_of other) (omega arith) l);
-      }
+      first_at (content_of p) (condition_of fault.kind) (λ other l. met other (λ n m. first.before n (omega arith) (omega (arith, m, l))) (first.before (place other) (omega arith) l))
+      (λ k. none-some fault (sym (none_met (condition_of fault.kind) (λ n l. first.before n (omega arith) l) k) ∙ first.here))

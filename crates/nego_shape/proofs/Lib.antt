@@ -1,3 +1,4 @@
+pub mod ConditionLaws
 mod EdgeSteps
 mod Forward
 mod ListPlaces

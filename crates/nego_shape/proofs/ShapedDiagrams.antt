@@ -21,7 +21,9 @@ use Rattle.nego_model.proofs.diagrams.Conditions.{AtomFits, OutcomeLeads, HasFor
 use Rattle.nego_model.proofs.PairLaws.{AllPairs-map}
 use Rattle.nego_reader.specs.Content.{Content, AgentContent, AtomContent, OutContent, NextContent}
 use Rattle.nego_shape.specs.Naming.{PlacedOut, place_of, agent_names, atom_names, sizes_in, all_outs, parties_in, parties_at, next_atoms, atom_in, outcome_in, diagram_in}
-use Rattle.nego_shape.specs.Shaped.{IsDeclared, IsParty, IsNamedParty, IsSent, IsShaped, HasNameWords, first_number, last_number}
+use Rattle.nego_shape.specs.Conditions.{AllCovered, HasShape}
+use Rattle.nego_shape.proofs.ConditionLaws.{shape_form}
+use Rattle.nego_shape.specs.Shaped.{IsDeclared, IsParty, IsNamedParty, IsSent, HasNameWords, first_number, last_number}
 use Rattle.nego_shape.specs.Made.{parts_from}
 use Rattle.nego_shape.proofs.Places.{parties_in-rises, some_party_in, next_atoms-rises, next_atoms-line, some_next_atom, named_place}
 use Rattle.nego_shape.proofs.Outs.{AllPairs-from_map, nondecreasing, All-outs, outs-within, outs-in_order, outs-differ, numbers, some_number}
@@ -66,7 +68,7 @@ module _ (c : Content) where
   by_agent : (P : List ℕ → Type 0) (out : OutContent) (a : ℕ) → P [] → (a < length c.agents → P (next_atoms c out a)) → P (slice_index_or (map (next_atoms c out) (range_with_len 0 (length c.agents))) a [])
   by_agent P out a none some = ⊎_elim (λ h. subst P (sym (nexts-same out a h)) (some h)) (λ h. subst P (sym (nexts-past out a h)) none) (cases_lt a (length c.agents))
 
-  module _ (ok : IsShaped c) where
+  module _ (ok : HasShape c) where
     -- who stands on a next line, by number
     abbrev Leads : PlacedOut → NextContent → Type 0
     Leads placed next = All (λ name. IsNamedParty c placed.atom name × IsNamedParty c (place_of next.atom (atom_names c)) name) next.agents
@@ -112,17 +114,17 @@ module _ (c : Content) where
     -- the form of the diagram
     pub shaped-form : HasForm (diagram_in c)
     shaped-form = record {
-      first_below = subst (λ n. first_number c < n) (atoms-count ∙ sym atoms-made) ok.form.declared.first;
-      last_below = subst (λ n. last_number c < n) (atoms-count ∙ sym atoms-made) ok.form.declared.last;
+      first_below = subst (λ n. first_number c < n) (atoms-count ∙ sym atoms-made) (shape_form c ok).declared.first;
+      last_below = subst (λ n. last_number c < n) (atoms-count ∙ sym atoms-made) (shape_form c ok).declared.last;
       atoms = All-map (AtomFits (length (agent_names c))) (atom_in c) c.atoms (λ k d h. record {
         parties = subst (λ n. IsRisingBelow n (parties_in c (slice_index_or c.atoms k d).parties)) (sym agents-count) (parties_in-rises c (slice_index_or c.atoms k d).parties);
-        some_party = some_party_in c (slice_index_or c.atoms k d).parties (ok.form.some_party k d h) (ok.form.declared.parties k d h) agents-count;
+        some_party = some_party_in c (slice_index_or c.atoms k d).parties ((shape_form c ok).some_party k d h) ((shape_form c ok).declared.parties k d h) agents-count;
       });
-      some_outcome = λ n h. let same : 0 + n ≡ n = omega arith in subst (λ m. outcomes_from 0 (diagram_in c).outcomes m ≢ []) same (some_number c 0 0 n c.atoms ok.form.some_outcome (subst (λ m. n < m) atoms-made h));
-      all_begin = λ a h. subst (λ xs. IsTrue (is_in a xs)) (sym (parties-same (first_number c))) (ok.form.all_begin a (subst (λ m. a < m) agents-count h));
-      all_end = λ a h. subst (λ xs. IsTrue (is_in a xs)) (sym (parties-same (last_number c))) (ok.form.all_end a (subst (λ m. a < m) agents-count h));
+      some_outcome = λ n h. let same : 0 + n ≡ n = omega arith in subst (λ m. outcomes_from 0 (diagram_in c).outcomes m ≢ []) same (some_number c 0 0 n c.atoms (shape_form c ok).some_outcome (subst (λ m. n < m) atoms-made h));
+      all_begin = λ a h. subst (λ xs. IsTrue (is_in a xs)) (sym (parties-same (first_number c))) ((shape_form c ok).all_begin a (subst (λ m. a < m) agents-count h));
+      all_end = λ a h. subst (λ xs. IsTrue (is_in a xs)) (sym (parties-same (last_number c))) ((shape_form c ok).all_end a (subst (λ m. a < m) agents-count h));
       outcomes = All-map (OutcomeLeads (diagram_in c)) (outcome_in c) (all_outs c) (λ k d h.
-          outcome-leads (slice_index_or (all_outs c) k d) (let w = (outs-within 0 c.atoms k d h).1 in omega (arith, w)) (ok.form.all_sent k d h) (ok.form.declared.next_atoms k d h) (ok.form.no_stranger k d h) (ok.form.last_ends k d h));
+          outcome-leads (slice_index_or (all_outs c) k d) (let w = (outs-within 0 c.atoms k d h).1 in omega (arith, w)) ((shape_form c ok).all_sent k d h) ((shape_form c ok).declared.next_atoms k d h) ((shape_form c ok).no_stranger k d h) ((shape_form c ok).last_ends k d h));
     }
 
     -- the tables of its outcomes
@@ -130,22 +132,22 @@ module _ (c : Content) where
     shaped-tables = All-map (λ (outcome : PlainOutcome). TableFits (sizes_in c) (parties_of (diagram_in c) outcome.atom) outcome.table) (outcome_in c) (all_outs c) (λ k d h.
         let placed = slice_index_or (all_outs c) k d in
         subst (λ ps. TableFits (sizes_in c) ps (outcome_in c placed).table) (sym (parties-same placed.atom))
-        (table_in-fits c (parties_at c placed.atom) placed.out (cases_in-named c (parties_at c placed.atom) placed.out.cases (ok.form.parties_alone k d h)) (ok.form.below k d h) (ok.covered k d h)))
+        (table_in-fits c (parties_at c placed.atom) placed.out (cases_in-named c (parties_at c placed.atom) placed.out.cases ((shape_form c ok).parties_alone k d h)) ((shape_form c ok).below k d h) ((ok AllCovered) k d h)))
 
     sizes-count : length (sizes_in c) ≡ length (agent_names c)
     sizes-count = length-map c.agents (λ (agent : AgentContent). agent.size) ∙ sym agents-count
 
     -- it is a diagram
     pub shaped-diagram : IsDiagram (diagram_in c)
-    shaped-diagram = diagram_from_form (diagram_in c) shaped-form sizes-count (All-weaker (λ size. (0 < size) × (size ≤ 64)) (λ size. 0 < size) (λ size p. p.0) (sizes_in c) ok.form.sizes.each) shaped-tables
+    shaped-diagram = diagram_from_form (diagram_in c) shaped-form sizes-count (All-weaker (λ size. (0 < size) × (size ≤ 64)) (λ size. 0 < size) (λ size p. p.0) (sizes_in c) (shape_form c ok).sizes.each) shaped-tables
 
     -- within the limits
     pub shaped-limits : IsWithinLimits (diagram_in c)
     shaped-limits = record {
-      few_agents = subst (λ n. n ≤ 16) (sym agents-count) ok.form.few_agents;
-      few_atoms = subst (λ n. n ≤ 64) (sym atoms-made) ok.form.few_atoms;
-      few_outcomes = subst (λ n. n ≤ 256) (sym (length-map (all_outs c) (outcome_in c))) ok.form.few_outcomes;
-      sizes = ok.form.sizes;
+      few_agents = subst (λ n. n ≤ 16) (sym agents-count) (shape_form c ok).few_agents;
+      few_atoms = subst (λ n. n ≤ 64) (sym atoms-made) (shape_form c ok).few_atoms;
+      few_outcomes = subst (λ n. n ≤ 256) (sym (length-map (all_outs c) (outcome_in c))) (shape_form c ok).few_outcomes;
+      sizes = (shape_form c ok).sizes;
     }
 
     -- with names
@@ -154,9 +156,9 @@ module _ (c : Content) where
       agents = All-map (λ name. IsTrue (is_name name)) (λ (agent : AgentContent). agent.name) c.agents named.agents;
       atoms = All-map (λ (atom : PlainAtom). IsTrue (is_name atom.name)) (atom_in c) c.atoms named.atoms;
       outcomes = All-map (λ (outcome : PlainOutcome). IsTrue (is_name outcome.name)) (outcome_in c) (all_outs c) (All-outs (λ out. IsTrue (is_name out.name)) 0 c.atoms named.outcomes);
-      agents_differ = ok.form.named_once.agents;
-      atoms_differ = AllPairs-map (λ (m n : PlainAtom). m.name ≢ n.name) (atom_in c) c.atoms (AllPairs-from_map (λ m n. m ≢ n) (λ (atom : AtomContent). atom.name) c.atoms ok.form.named_once.atoms);
-      outcomes_differ = AllPairs-map (λ (o p : PlainOutcome). o.atom ≡ p.atom → o.name ≢ p.name) (outcome_in c) (all_outs c) (outs-differ 0 c.atoms ok.form.named_once.outcomes);
+      agents_differ = (shape_form c ok).named_once.agents;
+      atoms_differ = AllPairs-map (λ (m n : PlainAtom). m.name ≢ n.name) (atom_in c) c.atoms (AllPairs-from_map (λ m n. m ≢ n) (λ (atom : AtomContent). atom.name) c.atoms (shape_form c ok).named_once.atoms);
+      outcomes_differ = AllPairs-map (λ (o p : PlainOutcome). o.atom ≡ p.atom → o.name ≢ p.name) (outcome_in c) (all_outs c) (outs-differ 0 c.atoms (shape_form c ok).named_once.outcomes);
     }
 
     -- and its outcomes stand in order

@@ -17,7 +17,9 @@ use Rattle.nego_reader.specs.Content.{content_of, atom_content, out_content}
 use Rattle.nego_shape.specs.declared.checks.outcomes.Rule.TheVariants as rules
 use Rattle.nego_shape.specs.declared.fault.ShapeKind.TheVariants as kinds
 use Rattle.nego_shape.specs.Naming.{sizes_in, all_outs, cases_in}
-use Rattle.nego_shape.specs.Shaped.{IsFormed, IsShaped, IsAllCovered}
+use Rattle.nego_shape.specs.Conditions.{IsFormed, HasShape}
+use Rattle.nego_shape.proofs.ConditionLaws.{form_shape}
+use Rattle.nego_shape.specs.Shaped.{IsAllCovered}
 use Rattle.nego_shape.specs.Faults.{fault_on, no_agent, too_many, twice, twice_in, unknown, unknown_in, no_party, no_outcome, lacks, party_fault, next_fault, broken, zero_size, size_too_large, joint_too_large, size_fault, inner_fault, form_fault, first_uncovered, not_total_at, not_total_among, not_total_from, not_total, shape_fault}
 use Rattle.nego_shape.proofs.Outs.{All-outs}
 use Rattle.nego_shape.proofs.Misses.{or_none, map_none, not_not, numbered_none, position_none}
@@ -120,5 +122,5 @@ first_is_none sizes cases h =
     not_below n = grind (arith, nat_tests)
 
 -- no fault of shape gives the shape
-pub sound_shape : (p : Parsed) → shape_fault p ≡ None → IsShaped (content_of p)
-sound_shape p h = let two = or_none (form_fault p) (not_total p) h in record { form = shaped_form p two.0; covered = total p two.1 }
+pub sound_shape : (p : Parsed) → shape_fault p ≡ None → HasShape (content_of p)
+sound_shape p h = let two = or_none (form_fault p) (not_total p) h in form_shape (content_of p) (shaped_form p two.0) (total p two.1)

@@ -33,7 +33,7 @@ use Rattle.nego_shape.specs.declared.fault.Many.TheVariants as many
 use Rattle.nego_shape.specs.declared.fault.ShapeFault.{ShapeFault}
 use Rattle.nego_shape.specs.declared.fault.ShapeKind.{ShapeKind}
 use Rattle.nego_shape.specs.declared.fault.ShapeKind.TheVariants as kinds
-use Rattle.nego_shape.specs.Broken.{rank_of}
+use Rattle.nego_shape.proofs.ConditionLaws.{rank_of}
 use Rattle.nego_shape.specs.Laws.{kind_of}
 use Rattle.nego_shape.specs.Made.{placed_at}
 use Rattle.nego_shape.specs.Told.{IsSo, is_named}

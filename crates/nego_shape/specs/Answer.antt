@@ -11,7 +11,7 @@ use Rattle.nego_shape.specs.declared.fault.ShapeAnswer.{ShapeAnswer}
 use Rattle.nego_shape.specs.declared.fault.ShapeAnswer.TheVariants as answers
 use Rattle.nego_shape.specs.Faults.{shape_fault}
 use Rattle.nego_shape.specs.Naming.{sizes_in}
-use Rattle.nego_shape.specs.Shaped.{IsShaped}
+use Rattle.nego_shape.specs.Conditions.{HasShape}
 
 -- the fault is this one; want of memory is free
 abbrev pub Tells : ShapeAnswer → Option ShapeFault → Type 0
@@ -25,7 +25,7 @@ HasCause answer p = Tells answer (shape_fault p)
 -- the text hasn't the shape of a diagram; want of memory is free
 abbrev pub LacksShape : ShapeAnswer → Parsed → Type 0
 LacksShape answers.Memory p = ⊤
-LacksShape (answers.Off told) p = ¬ IsShaped (content_of p)
+LacksShape (answers.Off told) p = ¬ HasShape (content_of p)
 
 -- joint data that a fault tells are joint data of the text's sizes
 abbrev pub AreJointIn : Parsed → ShapeKind → Type 0

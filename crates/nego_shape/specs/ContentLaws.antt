@@ -6,7 +6,8 @@ use Rattle.nego_reader.specs.declared.parsed.Parsed.{Parsed}
 use Rattle.nego_reader.specs.Spelling.{Spells}
 use Rattle.nego_reader.specs.Content.{Content, content_of}
 use Rattle.nego_shape.specs.Naming.{diagram_in}
-use Rattle.nego_shape.specs.Shaped.{IsShaped, HasNameWords}
+use Rattle.nego_shape.specs.Conditions.{HasShape}
+use Rattle.nego_shape.specs.Shaped.{HasNameWords}
 
 -- The names of a value that some text spells are names.
 abbrev pub SpelledWordsAreNames : Type 0
@@ -14,16 +15,16 @@ SpelledWordsAreNames = (bytes : List ℕ) (p : Parsed) → Spells bytes p → Ha
 
 -- A content that has the shape is a diagram,
 abbrev pub ShapedContentsAreDiagrams : Type 0
-ShapedContentsAreDiagrams = (c : Content) → IsShaped c → IsDiagram (diagram_in c)
+ShapedContentsAreDiagrams = (c : Content) → HasShape c → IsDiagram (diagram_in c)
 
 -- it is within the limits,
 abbrev pub ShapedContentsAreWithinLimits : Type 0
-ShapedContentsAreWithinLimits = (c : Content) → IsShaped c → IsWithinLimits (diagram_in c)
+ShapedContentsAreWithinLimits = (c : Content) → HasShape c → IsWithinLimits (diagram_in c)
 
 -- it has names, where the names are names by their bytes,
 abbrev pub ShapedContentsHaveNames : Type 0
-ShapedContentsHaveNames = (c : Content) → IsShaped c → HasNameWords c → HasNames (diagram_in c)
+ShapedContentsHaveNames = (c : Content) → HasShape c → HasNameWords c → HasNames (diagram_in c)
 
 -- and its outcomes stand in the order of their atoms.
 abbrev pub ShapedContentsAreInOrder : Type 0
-ShapedContentsAreInOrder = (c : Content) → IsShaped c → AreInOrder (diagram_in c).outcomes
+ShapedContentsAreInOrder = (c : Content) → HasShape c → AreInOrder (diagram_in c).outcomes

@@ -1,6 +1,6 @@
 pub mod Answer
 pub mod Answers
-pub mod Broken
+pub mod Conditions
 pub mod ContentLaws
 pub mod Faults
 pub mod Firsts

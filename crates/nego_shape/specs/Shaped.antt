@@ -1,13 +1,11 @@
--- When a text's content has the shape of a diagram: the conditions that faults of shape break, in the order in which the
--- kinds of faults are tested. There are three for what there is too much of, and one for the three kinds of sizes.
-use Rattle.std.specs.Prelude.{◌≡◌, ◌≢◌, ℕ, ◌<◌, ◌≤◌, List, [], ◌∷◌, ◌++◌, length, map, filter, All, AllPairs, IsTrue}
+-- What the conditions of the shape of a diagram say of a text's content.
+use Rattle.std.specs.Prelude.{◌≢◌, ℕ, ◌<◌, List, [], ◌∷◌, ◌++◌, length, map, filter, All, AllPairs, IsTrue}
 use Rattle.std.specs.List.{flat_map, list_any}
 use Rattle.std.specs.Str.{bytes_eq}
 use Rattle.nego_base.specs.Members.{is_in}
 use Rattle.nego_base.specs.Name.{is_name}
 use Rattle.nego_data.specs.Data.{data_count}
-use Rattle.nego_data.specs.Sizes.{AreSizes}
-use Rattle.nego_data.specs.CaseForm.{AssignsBelow, IsCovered}
+use Rattle.nego_data.specs.CaseForm.{IsCovered}
 use Rattle.nego_reader.specs.Content.{Content, OutContent, NextContent, CaseContent, TestContent, SetContent, RightContent, TermContent, Number, Name, AnyTerm, NumberTerm, PlusTerm, MinusTerm}
 use Rattle.nego_shape.specs.Naming.{place_of, places_of, agent_names, atom_names, sizes_in, all_outs, parties_at, cases_in}
 
@@ -92,34 +90,6 @@ IsSent c nexts a = IsTrue (list_any (λ next. is_in a (places_of next.agents (ag
 -- each joint data is covered by some case of the outcome
 abbrev pub IsAllCovered : Content → OutContent → Type 0
 IsAllCovered c out = (d : ℕ) → d < data_count (sizes_in c) → IsCovered (sizes_in c) (cases_in c out) d
-
--- The content has the form of a diagram. There is an agent; agents, atoms and outcomes are not too many; no name stands
--- twice; all names are declared; each atom has a party and an outcome; every agent is a party of the first and of the
--- last atom; each party of another atom than the last stands on some next line of each outcome; who stands on a next
--- line is a party of the outcome's atom and of the next atom; the last atom has no next line; the agents of cases are
--- parties; sizes are within their limits; constants that are assigned are below the size.
-pub record IsFormed (c : Content) : Type 0 where
-  pub some_agent : 0 < length c.agents
-  pub few_agents : length c.agents ≤ 16
-  pub few_atoms : length c.atoms ≤ 64
-  pub few_outcomes : length (all_outs c) ≤ 256
-  pub named_once : AreNamedOnce c
-  pub declared : AreAllDeclared c
-  pub some_party : All (λ atom. atom.parties ≢ []) c.atoms
-  pub some_outcome : All (λ atom. atom.outs ≢ []) c.atoms
-  pub all_begin : (a : ℕ) → a < length c.agents → IsParty c (first_number c) a
-  pub all_end : (a : ℕ) → a < length c.agents → IsParty c (last_number c) a
-  pub all_sent : All (λ placed. placed.atom ≢ last_number c → (a : ℕ) → IsParty c placed.atom a → IsSent c placed.out.nexts a) (all_outs c)
-  pub no_stranger : All (λ placed. All (λ next. All (λ name. IsNamedParty c placed.atom name × IsNamedParty c (place_of next.atom (atom_names c)) name) next.agents) placed.out.nexts) (all_outs c)
-  pub last_ends : All (λ placed. placed.atom ≡ last_number c → placed.out.nexts ≡ []) (all_outs c)
-  pub parties_alone : All (λ placed. All (λ case. All (IsNamedParty c placed.atom) (case_names case)) placed.out.cases) (all_outs c)
-  pub sizes : AreSizes (sizes_in c)
-  pub below : All (λ placed. All (AssignsBelow (sizes_in c)) (cases_in c placed.out)) (all_outs c)
-
--- The content has no fault of shape: it has the form of a diagram, and the cases of each outcome cover all joint data.
-pub record IsShaped (c : Content) : Type 0 where
-  pub form : IsFormed c
-  pub covered : All (λ placed. IsAllCovered c placed.out) (all_outs c)
 
 -- The names of agents, atoms and outcomes are names by their bytes, as in the content of what a text spells.
 pub record HasNameWords (c : Content) : Type 0 where

@@ -4,10 +4,9 @@ ghost use Rattle.std.specs.Prelude.{◌≡◌, Some, None};
 ghost use Rattle.nego_reader.specs.declared.parsed.Parsed.{Parsed};
 ghost use Rattle.nego_reader.specs.Content.{content_of};
 ghost use Rattle.nego_shape.specs.declared.fault.ShapeFault.{ShapeFault};
-ghost use Rattle.nego_shape.specs.Broken.{IsFirstBroken};
+ghost use Rattle.nego_shape.specs.Conditions.{HasShape, condition_of, IsFirstBroken};
 ghost use Rattle.nego_shape.specs.Faults.{shape_fault};
 ghost use Rattle.nego_shape.specs.Laws.{OneOrderIsTold, OneCycleIsFound, SizeFaultsAreThoseOfSizes};
-ghost use Rattle.nego_shape.specs.Shaped.{IsShaped};
 ghost use Rattle.nego_shape.specs.Told.{IsSo};
 
 /// A negotiation has at most one order that can be told.
@@ -22,8 +21,8 @@ pub fn one_cycle_is_found()
 
 /// A text's value has no fault of shape exactly where what it says has the shape of a diagram.
 pub fn faultless_texts_are_those_shaped()
-    ensures shaped { (p : Parsed) → shape_fault p ≡ None → IsShaped (content_of p) }
-    ensures faultless { (p : Parsed) → IsShaped (content_of p) → shape_fault p ≡ None }
+    ensures shaped { (p : Parsed) → shape_fault p ≡ None → HasShape (content_of p) }
+    ensures faultless { (p : Parsed) → HasShape (content_of p) → shape_fault p ≡ None }
 {}
 
 /// The first fault of a text's sizes is the one that `Sizes::new` answers of them.
@@ -34,6 +33,6 @@ pub fn size_faults_are_those_of_sizes()
 /// A told fault of shape is of the first kind, in the order of the kinds, whose condition the text's content breaks; and
 /// what its numbers say of the content is so.
 pub fn told_faults_are_the_first_broken()
-    ensures first { (p : Parsed) (fault : ShapeFault) → shape_fault p ≡ Some fault → IsFirstBroken (content_of p) fault.kind }
+    ensures first { (p : Parsed) (fault : ShapeFault) → shape_fault p ≡ Some fault → IsFirstBroken (content_of p) (condition_of fault.kind) }
     ensures so { (p : Parsed) (fault : ShapeFault) → shape_fault p ≡ Some fault → IsSo (content_of p) fault.kind }
 {}

@@ -9,7 +9,8 @@ ghost use Rattle.nego_reader.specs.Content.{content_of, atom_content, out_conten
 ghost use Rattle.nego_shape.specs.Answer.{Tells};
 ghost use Rattle.nego_shape.specs.Faults.{not_total_at, not_total_among, not_total};
 ghost use Rattle.nego_shape.specs.Naming.{place_of, agent_names, sizes_in, all_outs, parties_in, parties_at, next_atoms, operand_in, test_in, term_in, set_in, case_in, cases_in, outcome_in, diagram_in};
-ghost use Rattle.nego_shape.specs.Shaped.{IsDeclared, IsFormed, HasNameWords};
+ghost use Rattle.nego_shape.specs.Conditions.{IsFormed};
+ghost use Rattle.nego_shape.specs.Shaped.{IsDeclared, HasNameWords};
 ghost use Rattle.nego_shape.specs.Made.{placed_at, part_in, parts_from};
 
 use crate::fault::{ShapeAnswer, ShapeFault, ShapeKind};

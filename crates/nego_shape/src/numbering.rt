@@ -5,7 +5,8 @@ ghost use Rattle.std.specs.Str.{bytes_eq};
 ghost use Rattle.indexmap.specs.IndexSet.{index_set_len, insert_key};
 ghost use Rattle.nego_reader.specs.Content.{content_of};
 ghost use Rattle.nego_shape.specs.Naming.{place_of, atom_names, agent_in};
-ghost use Rattle.nego_shape.specs.Shaped.{AreDifferent, AreNamedOnce, IsFormed};
+ghost use Rattle.nego_shape.specs.Conditions.{IsFormed};
+ghost use Rattle.nego_shape.specs.Shaped.{AreDifferent, AreNamedOnce};
 
 use indexmap::IndexSet;
 use nego_base::{AgentId, AtomId, Memory, Text, Word};

@@ -6,7 +6,8 @@ ghost use Rattle.nego_reader.specs.Content.{content_of};
 ghost use Rattle.nego_shape.specs.Answer.{HasCause, LacksShape, HasJoint};
 ghost use Rattle.nego_shape.specs.Faults.{shape_fault};
 ghost use Rattle.nego_shape.specs.Naming.{diagram_in};
-ghost use Rattle.nego_shape.specs.Shaped.{IsShaped, HasNameWords};
+ghost use Rattle.nego_shape.specs.Conditions.{HasShape};
+ghost use Rattle.nego_shape.specs.Shaped.{HasNameWords};
 
 use crate::fault::ShapeAnswer;
 use crate::finding::form_fault;
@@ -21,7 +22,7 @@ use std::alloc::Global;
 pub fn shape(alloc: Global, p: &Parsed) -> Result<Diagram, ShapeAnswer>
     requires { HasNameWords (content_of p.now) }
     ensures ok { IfOk result (λ _. shape_fault p.now ≡ None) }
-    ensures shaped { IfOk result (λ _. IsShaped (content_of p.now)) }
+    ensures shaped { IfOk result (λ _. HasShape (content_of p.now)) }
     ensures content { IfOk result (λ d. d ≡ diagram_in (content_of p.now)) }
     ensures diagram { IfOk result IsDiagram }
     ensures err { IfErr result (λ e. HasCause e p.now) }

@@ -7,7 +7,9 @@ use Rattle.nego_reader.specs.Content.{content_of}
 use Rattle.nego_shape.specs.Answer.{Tells, HasCause, LacksShape, HasJoint}
 use Rattle.nego_shape.specs.Faults.{form_fault, not_total, shape_fault}
 use Rattle.nego_shape.specs.Naming.{diagram_in}
-use Rattle.nego_shape.specs.Shaped.{IsFormed, IsShaped, HasNameWords}
+use Rattle.nego_shape.specs.Conditions.{IsFormed, HasShape}
+use Rattle.nego_shape.specs.Shaped.{HasNameWords}
+use Rattle.nego_shape.proofs.ConditionLaws.{form_shape}
 use Rattle.nego_shape.proofs.FirstLaws.{or_found, or_missed}
 use Rattle.nego_shape.proofs.FaultlessShape.{lacks_shape}
 use Rattle.nego_shape.proofs.JointLaws.{form_joint, total_joint, told_joint}
@@ -63,8 +65,8 @@ pub returns-clause-shaped : goal.returns-clause-shaped
 returns-clause-shaped c =
     let p = c.args.p.now in
     let form = shaped_form p (sym c.in_ok-fault.ensures ∙ c.in_default.is) in
-    IfOk-weaker c.diagram.result (λ _. not_total c.in_ok-numbered.numbered ≡ None) (λ _. IsShaped (content_of p))
-    (λ _ h. record { form = form; covered = total p (ap not_total (sym c.in_ok-numbered.ensures) ∙ h) }) c.diagram.ensures.total
+    IfOk-weaker c.diagram.result (λ _. not_total c.in_ok-numbered.numbered ≡ None) (λ _. HasShape (content_of p))
+    (λ _ h. form_shape (content_of p) form (total p (ap not_total (sym c.in_ok-numbered.ensures) ∙ h))) c.diagram.ensures.total
 
 pub returns-clause-misshapen : goal.returns-clause-misshapen
 returns-clause-misshapen c =
