@@ -9,7 +9,7 @@ use Rattle.nego_reader.specs.declared.parsed.PAgent.{PAgent}
 use Rattle.nego_reader.specs.declared.parsed.PAtom.{PAtom}
 use Rattle.nego_reader.specs.declared.parsed.POut.{POut}
 use Rattle.nego_reader.specs.declared.parsed.PNext.{PNext}
-use Rattle.nego_reader.specs.Content.{content_of, out_content}
+use Rattle.nego_reader.specs.Content.{OutContent, content_of, out_content}
 use Rattle.nego_shape.specs.declared.checks.outcomes.Rule.{Rule}
 use Rattle.nego_shape.specs.declared.checks.outcomes.Rule.TheVariants as rules
 use Rattle.nego_shape.specs.declared.fault.Many.{Many}
@@ -21,7 +21,7 @@ use Rattle.nego_shape.proofs.ConditionLaws.{rank_of}
 use Rattle.nego_shape.specs.Naming.{sizes_in, cases_in}
 use Rattle.nego_shape.specs.Faults.{fault_on, no_agent, past, out_names, too_many, twice, twice_in, unknown, unknown_in, no_party, no_party_at, no_outcome, no_outcome_at, lacks, is_party_at, agent_fault, is_last, is_missing, next_stranger_on, is_stranger, atom_number, not_party_on, case_line, is_outside, value_too_large_on, is_overfull, broken_at, broken_from, broken, party_fault, next_fault, zero_size, zero_size_at, size_too_large, size_too_large_at, joint_from, joint_too_large, size_fault, inner_fault, form_fault, first_uncovered, not_total_at, not_total_from, not_total, shape_fault}
 use Rattle.nego_shape.proofs.Ranks.{Ranked, one_check, two_checks}
-use Rattle.nego_shape.proofs.Tellings.{map_some, if_some, numbered_some, among_some, agent_some, OutFound, out_some}
+use Rattle.nego_shape.proofs.Tellings.{map_some, if_some, numbered_some, among_some, agent_some, OutFound, IsCleanOf, out_some}
 
 -- the rank of a fault's kind
 abbrev pub rank : ShapeFault → ℕ
@@ -123,17 +123,21 @@ agent_rank line kind test agents k each x h =
     told line (kind (record { 0 = r.number })) x r.is ∙ each (record { 0 = r.number })
 
 -- the outcome that breaks a rule
-pub breach : (rule : Rule) (p : Parsed) (x : ShapeFault) → broken rule p ≡ Some x → OutFound (broken_at rule p) p.atoms x
+pub breach : (rule : Rule) (P : ℕ → OutContent → Type 0) (p : Parsed) (x : ShapeFault) → IsCleanOf (broken_at rule p) P p.atoms → broken rule p ≡ Some x → OutFound (broken_at rule p) P p.atoms x
 unfolding broken_from
-breach rule p x h = out_some (broken_at rule p) (broken_from rule p) (λ o. refl) (λ o atom atoms. refl) p.atoms x h
+breach rule P p x clean h = out_some (broken_at rule p) P (broken_from rule p) (λ o. refl) (λ o atom atoms. refl) p.atoms x clean h
 
-pub partial : (p : Parsed) (x : ShapeFault) → not_total p ≡ Some x → OutFound (λ atom. not_total_at p) p.atoms x
+-- whatever outcomes before it have
+abbrev Whatever : ℕ → OutContent → Type 0
+Whatever n out = Unit {0}
+
+pub partial : (P : ℕ → OutContent → Type 0) (p : Parsed) (x : ShapeFault) → IsCleanOf (λ atom. not_total_at p) P p.atoms → not_total p ≡ Some x → OutFound (λ atom. not_total_at p) P p.atoms x
 unfolding not_total_from
-partial p x h = out_some (λ atom. not_total_at p) (not_total_from p) (λ o. refl) (λ o atom atoms. refl) p.atoms x h
+partial P p x clean h = out_some (λ atom. not_total_at p) P (not_total_from p) (λ o. refl) (λ o atom atoms. refl) p.atoms x clean h
 
 rule_rank : (rule : Rule) (k : ℕ) → ((p : Parsed) (atom : PAtom) (o : ℕ) (out : POut) (x : ShapeFault) → broken_at rule p atom o out ≡ Some x → rank x ≡ k) →
     (p : Parsed) (x : ShapeFault) → broken rule p ≡ Some x → rank x ≡ k
-rule_rank rule k each p x h = let r = breach rule p x h in each p r.atom r.number r.out x r.gives
+rule_rank rule k each p x h = let r = breach rule Whatever p x (λ m atom at i d l j e. tt) h in each p r.atom r.number r.out x r.gives
 
 missing_rank : (p : Parsed) (atom : PAtom) (o : ℕ) (out : POut) (x : ShapeFault) → broken_at rules.NextMissing p atom o out ≡ Some x → rank x ≡ 10
 missing_rank p atom o out x h = go (is_last p atom) h
@@ -168,7 +172,7 @@ overfull_rank p atom o out x h =
 
 not_total_rank : (p : Parsed) (x : ShapeFault) → not_total p ≡ Some x → rank x ≡ 18
 not_total_rank p x h =
-    let r = partial p x h in
+    let r = partial Whatever p x (λ m atom at i d l j e. tt) h in
     let o = r.number in
     let two = map_some (λ d. fault_on r.out.name.line (kinds.NotTotal (record { 0 = o }) d)) (first_uncovered (sizes_in (content_of p)) (cases_in (content_of p) (out_content r.out))) x r.gives in
     told r.out.name.line (kinds.NotTotal (record { 0 = o }) two.0) x two.2

@@ -50,7 +50,7 @@ numbered_none f P each n [] h = All-nil P
 numbered_none f P each n (x ∷ xs) h = let k = or_none (f n x) (first_numbered f (n + 1) xs) h in All-cons P x xs (each n x k.0) (numbered_none f P each (n + 1) xs k.1)
 
 -- what is given of the item at a place
-numbered_at : {A B : Type 0} (f : ℕ → A → Option B) (n : ℕ) (xs : List A) → first_numbered f n xs ≡ None → (i : ℕ) (d : A) → i < length xs → f (n + i) (get_or xs i d) ≡ None
+pub numbered_at : {A B : Type 0} (f : ℕ → A → Option B) (n : ℕ) (xs : List A) → first_numbered f n xs ≡ None → (i : ℕ) (d : A) → i < length xs → f (n + i) (get_or xs i d) ≡ None
 unfolding first_numbered
 numbered_at f n [] h i d l = absurd (omega (arith, l))
 numbered_at f n (x ∷ xs) h zero d l =

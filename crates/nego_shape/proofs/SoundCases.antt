@@ -25,17 +25,18 @@ use Rattle.nego_reader.specs.declared.parsed.PRight.TheVariants as rights
 use Rattle.nego_reader.specs.declared.parsed.PSet.{PSet}
 use Rattle.nego_reader.specs.declared.parsed.PTerm.{PTerm}
 use Rattle.nego_reader.specs.declared.parsed.PTerm.TheVariants as terms
-use Rattle.nego_reader.specs.Content.{AgentContent, CaseContent, SetContent, content_of, agent_content, case_content, test_content, set_content, right_content, term_content, texts}
+use Rattle.nego_reader.specs.Content.{AgentContent, CaseContent, SetContent, content_of, agent_content, case_content, test_content, set_content, right_content, term_content, texts, out_content}
 use Rattle.nego_shape.specs.declared.checks.outcomes.Rule.TheVariants as rules
 use Rattle.nego_shape.specs.declared.fault.ShapeKind.TheVariants as kinds
-use Rattle.nego_shape.specs.Naming.{place_of, agent_names, sizes_in, all_outs, set_in, case_in, cases_in, term_in}
+use Rattle.nego_shape.specs.Naming.{place_of, agent_names, sizes_in, set_in, case_in, cases_in, term_in}
 use Rattle.nego_shape.specs.Shaped.{AreNamedOnce, IsDeclared, IsNamedParty}
+use Rattle.nego_shape.specs.Conditions.{Holds, PartiesAlone, NoLargeValue}
 use Rattle.nego_shape.specs.Shaped as shaped
 use Rattle.nego_shape.specs.Faults.{fault_on, same, stands_in, case_line, case_names, test_names, right_names, set_names, term_names, is_outside, not_party_on, is_overfull, is_too_large, value_too_large_on, broken, unknown_in, zero_size, zero_size_at, size_too_large, size_too_large_at, joint_from, joint_too_large}
 use Rattle.nego_shape.proofs.Misses.{if_none, not_not, not_both, any_none, among_none, numbered_none}
 use Rattle.nego_shape.proofs.ShapedCases.{All-each, All-back}
 use Rattle.nego_shape.proofs.SoundDeclared.{IsOutDeclared, outs_declared}
-use Rattle.nego_shape.proofs.SoundPlaces.{kept_by, all_slice, party_from, by_placed, agent_of}
+use Rattle.nego_shape.proofs.SoundPlaces.{Keeps, kept_by, all_slice, party_from, by_placed, agent_of}
 use Rattle.nego_shape.proofs.SoundRules.{All-unmap, no_agent_so}
 
 -- a word with these bytes is named by the test
@@ -100,10 +101,10 @@ module _ (p : Parsed) (once : AreNamedOnce (content_of p)) (known : unknown_in p
       All-unmap (λ (c : CaseContent). All Declared (shaped.case_names c)) case_content out.cases
       ((all_slice (λ (x : PAtom). All Declared (texts x.parties) × All (IsOutDeclared p) x.outs) p.atoms n atom (outs_declared p known) at).1 i o l).cases
 
-  pub parties_alone : broken rules.NotParty p ≡ None → All (λ placed. All (λ case. All (IsNamedParty (content_of p) placed.atom) (shaped.case_names case)) placed.out.cases) (all_outs (content_of p))
-  parties_alone h = by_placed p once (λ n out. All (λ case. All (IsNamedParty (content_of p) n) (shaped.case_names case)) out.cases) (λ n atom at i o l.
+  pub parties_kept : (n : ℕ) (atom : PAtom) → slice_get p.atoms n ≡ Some atom → (i : ℕ) (o : POut) → i < length atom.outs → Keeps rules.NotParty p atom (get_or atom.outs i o) →
+      All (shaped.NamesParties (content_of p) n) (out_content (get_or atom.outs i o)).cases
+  parties_kept n atom at i o l keeps =
       let out = get_or atom.outs i o in
-      let keeps = kept_by rules.NotParty p 0 p.atoms h n atom at i o l in
       All-map (λ case. All (IsNamedParty (content_of p) n) (shaped.case_names case)) case_content out.cases (λ k d m j name q.
       let case = get_or out.cases k d in
       let word = get_or (shaped.case_names (case_content case)) j name in
@@ -111,7 +112,10 @@ module _ (p : Parsed) (once : AreNamedOnce (content_of p)) (known : unknown_in p
       let none = all_slice (λ (x : PAgent). is_outside atom case x ≡ false) p.agents (place_of word (agent_names (content_of p))) there.agent
       (no_agent_so (case_line case) (kinds.NotParty (record { 0 = keeps.number })) (is_outside atom case) p.agents (among_none (not_party_on p atom keeps.number) out.cases keeps.kept k d m)) there.at in
       party_from p once n atom at (place_of word (agent_names (content_of p))) there.agent there.at
-      (not_not (stands_in atom.parties there.agent.name) (not_both (case_names there.agent.name case) (not (stands_in atom.parties there.agent.name)) none (case_named case j name q there.agent.name there.is)))))
+      (not_not (stands_in atom.parties there.agent.name) (not_both (case_names there.agent.name case) (not (stands_in atom.parties there.agent.name)) none (case_named case j name q there.agent.name there.is))))
+
+  pub parties_alone : broken rules.NotParty p ≡ None → Holds PartiesAlone (content_of p)
+  parties_alone h = by_placed p once (λ n out. All (shaped.NamesParties (content_of p) n) out.cases) (λ n atom at i d l. parties_kept n atom at i d l (kept_by rules.NotParty p 0 p.atoms h n atom at i d l))
 
   pub size_there : (a : ℕ) (agent : PAgent) → slice_get p.agents a ≡ Some agent → agent.size ≡ slice_index (sizes_in (content_of p)) a
   size_there a agent at =
@@ -134,10 +138,10 @@ module _ (p : Parsed) (once : AreNamedOnce (content_of p)) (known : unknown_in p
       (All-unmap (λ (s : SetContent). All Declared (shaped.set_names s)) set_content c.sets
       (All-each Declared shaped.set_names (map set_content c.sets) (All-back Declared (flat_map shaped.test_names (map test_content c.tests)) (flat_map shaped.set_names (map set_content c.sets)) all)) j set l)
 
-  pub below : broken rules.ValueTooLarge p ≡ None → All (λ placed. All (AssignsBelow (sizes_in (content_of p))) (cases_in (content_of p) placed.out)) (all_outs (content_of p))
-  below h = by_placed p once (λ n out. All (AssignsBelow (sizes_in (content_of p))) (cases_in (content_of p) out)) (λ n atom at i o l.
+  pub below_kept : (n : ℕ) (atom : PAtom) → slice_get p.atoms n ≡ Some atom → (i : ℕ) (o : POut) → i < length atom.outs → Keeps rules.ValueTooLarge p atom (get_or atom.outs i o) →
+      All (AssignsBelow (sizes_in (content_of p))) (cases_in (content_of p) (out_content (get_or atom.outs i o)))
+  below_kept n atom at i o l keeps =
       let out = get_or atom.outs i o in
-      let keeps = kept_by rules.ValueTooLarge p 0 p.atoms h n atom at i o l in
       All-map (AssignsBelow (sizes_in (content_of p))) (case_in (content_of p)) (map case_content out.cases) (All-map (λ (c : CaseContent). AssignsBelow (sizes_in (content_of p)) (case_in (content_of p) c)) case_content out.cases (λ k d m.
       let case = get_or out.cases k d in
       All-map (λ (set : Set). FitsSize set.term (slice_index (sizes_in (content_of p)) set.agent.0)) (set_in (content_of p)) (map set_content case.sets)
@@ -149,7 +153,10 @@ module _ (p : Parsed) (once : AreNamedOnce (content_of p)) (known : unknown_in p
       (no_agent_so (case_line case) (kinds.ValueTooLarge (record { 0 = keeps.number })) (is_overfull case) p.agents (among_none (value_too_large_on p keeps.number) out.cases keeps.kept k d m)) there.at in
       let fit = not_both (same there.agent.name set.agent) (is_too_large there.agent.size set.term)
       (any_none (λ (x : PSet). same there.agent.name x.agent && is_too_large there.agent.size x.term) case.sets none j s q) (same_word there.agent.name set.agent there.is) in
-      subst (FitsSize (term_in (content_of p) (term_content set.term))) (size_there a there.agent there.at) (fits set.term there.agent.size fit))))))
+      subst (FitsSize (term_in (content_of p) (term_content set.term))) (size_there a there.agent there.at) (fits set.term there.agent.size fit)))))
+
+  pub below : broken rules.ValueTooLarge p ≡ None → Holds NoLargeValue (content_of p)
+  below h = by_placed p once (λ n out. All (AssignsBelow (sizes_in (content_of p))) (cases_in (content_of p) out)) (λ n atom at i d l. below_kept n atom at i d l (kept_by rules.ValueTooLarge p 0 p.atoms h n atom at i d l))
 
 not_above : (m : ℕ) → nat_lt 1024 m ≡ false → m ≤ 1024
 not_above m h = grind (arith, nat_tests)

@@ -19,12 +19,13 @@ use Rattle.nego_reader.specs.Content.{AtomContent, NextContent, content_of, agen
 use Rattle.nego_shape.specs.declared.checks.outcomes.Rule.TheVariants as rules
 use Rattle.nego_shape.specs.declared.fault.ShapeKind.{ShapeKind}
 use Rattle.nego_shape.specs.declared.fault.ShapeKind.TheVariants as kinds
-use Rattle.nego_shape.specs.Naming.{place_of, agent_names, atom_names, all_outs}
-use Rattle.nego_shape.specs.Shaped.{AreNamedOnce, IsDeclared, IsParty, IsNamedParty, IsSent, last_number}
+use Rattle.nego_shape.specs.Naming.{place_of, agent_names, atom_names}
+use Rattle.nego_shape.specs.Conditions.{Holds, AllSent, NoStranger, LastEnds}
+use Rattle.nego_shape.specs.Shaped.{SendsAll, HasNoStranger, EndsLast, AreNamedOnce, IsDeclared, IsParty, IsNamedParty, IsSent}
 use Rattle.nego_shape.specs.Faults.{fault_on, same, stands_in, is_party_at, is_last, lacks, agent_fault, no_party, no_party_at, no_outcome, no_outcome_at, is_missing, next_missing_at, is_stranger, next_stranger_on, atom_number, broken, unknown_in}
 use Rattle.nego_shape.proofs.SoundDeclared.{IsOutDeclared, outs_declared, all_declared}
 use Rattle.nego_shape.proofs.Misses.{map_none, if_none, not_not, not_both, among_none, numbered_none, position_none}
-use Rattle.nego_shape.proofs.SoundPlaces.{kept_by, all_slice, false_from, stand, party_from, party_stands, party_at, last_is, is_last_at, by_placed, party_below, agent_of}
+use Rattle.nego_shape.proofs.SoundPlaces.{Keeps, kept_by, all_slice, false_from, stand, party_from, party_stands, party_at, last_is, is_last_at, by_placed, party_below, agent_of}
 
 -- what mapped items have
 pub All-unmap : {X Y : Type 0} (P : Y → Type 0) (f : X → Y) (xs : List X) → All P (map f xs) → All (λ x. P (f x)) xs
@@ -63,7 +64,7 @@ module _ (p : Parsed) (once : AreNamedOnce (content_of p)) (known : unknown_in p
           party_at p once name a agent e (not_not (is_party_at p.atoms name agent) (all_slice (λ (x : PAgent). not (is_party_at p.atoms name x) ≡ false) p.agents a agent none e))
 
   -- agents on next lines by number
-  sent_from : (a : ℕ) (agent : PAgent) → slice_get p.agents a ≡ Some agent → (nexts : List PNext) → list_any (λ next. stands_in next.agents agent.name) nexts ≡ true → IsSent (content_of p) (map next_content nexts) a
+  pub sent_from : (a : ℕ) (agent : PAgent) → slice_get p.agents a ≡ Some agent → (nexts : List PNext) → list_any (λ next. stands_in next.agents agent.name) nexts ≡ true → IsSent (content_of p) (map next_content nexts) a
   sent_from a agent at [] h = absurd (false≢true h)
   sent_from a agent at (next ∷ nexts) h = go (stands_in next.agents agent.name) refl (sent_from a agent at nexts)
     where
@@ -82,25 +83,25 @@ module _ (p : Parsed) (once : AreNamedOnce (content_of p)) (known : unknown_in p
       let k : agent_fault out.name.line (kinds.NextMissing (record { 0 = o })) (is_missing atom out) p.agents ≡ None = rw other at h in
       no_agent_so out.name.line (kinds.NextMissing (record { 0 = o })) (is_missing atom out) p.agents k
 
-  pub all_sent : broken rules.NextMissing p ≡ None → All (λ placed. placed.atom ≢ last_number (content_of p) → (a : ℕ) → IsParty (content_of p) placed.atom a → IsSent (content_of p) placed.out.nexts a) (all_outs (content_of p))
-  all_sent h = by_placed p once (λ n out. n ≢ last_number (content_of p) → (a : ℕ) → IsParty (content_of p) n a → IsSent (content_of p) out.nexts a) (λ n atom at i o l other a party.
-      let out = get_or atom.outs i o in
-      let keeps = kept_by rules.NextMissing p 0 p.atoms h n atom at i o l in
+  pub sends_kept : (n : ℕ) (atom : PAtom) → slice_get p.atoms n ≡ Some atom → (i : ℕ) (d : POut) → i < length atom.outs → Keeps rules.NextMissing p atom (get_or atom.outs i d) → SendsAll (content_of p) n (out_content (get_or atom.outs i d))
+  sends_kept n atom at i d l keeps other a party =
+      let out = get_or atom.outs i d in
       let there = agent_there a atom.name (party_below p once n atom a at party) in
       let none = all_slice (λ (x : PAgent). is_missing atom out x ≡ false) p.agents a there.0 (missing_none atom keeps.number out (false_from (is_last p atom) (λ t. other (last_is p once n atom at t))) keeps.kept) there.1 in
       sent_from a there.0 there.1 out.nexts (not_not (list_any (λ (next : PNext). stands_in next.agents there.0.name) out.nexts)
-      (not_both (stands_in atom.parties there.0.name) (not (list_any (λ (next : PNext). stands_in next.agents there.0.name) out.nexts)) none (party_stands p once n atom at a there.0 there.1 party))))
+      (not_both (stands_in atom.parties there.0.name) (not (list_any (λ (next : PNext). stands_in next.agents there.0.name) out.nexts)) none (party_stands p once n atom at a there.0 there.1 party)))
+
+  pub all_sent : broken rules.NextMissing p ≡ None → Holds AllSent (content_of p)
+  all_sent h = by_placed p once (SendsAll (content_of p)) (λ n atom at i d l. sends_kept n atom at i d l (kept_by rules.NextMissing p 0 p.atoms h n atom at i d l))
 
   -- a word stands among words
   word_stands : (words : List Word) (j : ℕ) (w name : Word) → j < length words → name.text ≡ (get_or words j w).text → stands_in words name ≡ true
   word_stands words j w name l e = list_any_at (same name) words j w l ((bytes_eq-Decides (get_or words j w).text name.text).1 (sym e))
 
-  pub no_stranger : broken rules.NextStranger p ≡ None →
-      All (λ placed. All (λ next. All (λ name. IsNamedParty (content_of p) placed.atom name × IsNamedParty (content_of p) (place_of next.atom (atom_names (content_of p))) name) next.agents) placed.out.nexts) (all_outs (content_of p))
-  no_stranger h =
-      by_placed p once (λ n out. All (λ (next : NextContent). All (λ name. IsNamedParty (content_of p) n name × IsNamedParty (content_of p) (place_of next.atom (atom_names (content_of p))) name) next.agents) out.nexts) (λ n atom at i o l.
+  pub strangers_kept : (n : ℕ) (atom : PAtom) → slice_get p.atoms n ≡ Some atom → (i : ℕ) (o : POut) → i < length atom.outs → Keeps rules.NextStranger p atom (get_or atom.outs i o) →
+      All (HasNoStranger (content_of p) n) (out_content (get_or atom.outs i o)).nexts
+  strangers_kept n atom at i o l keeps =
       let out = get_or atom.outs i o in
-      let keeps = kept_by rules.NextStranger p 0 p.atoms h n atom at i o l in
       let names = ((all_slice (λ (x : PAtom). All (λ name. IsDeclared (agent_names (content_of p)) name) (texts x.parties) × All (IsOutDeclared p) x.outs) p.atoms n atom (outs_declared p known) at).1 i o l).agents in
       All-map (λ (next : NextContent). All (λ name. IsNamedParty (content_of p) n name × IsNamedParty (content_of p) (place_of next.atom (atom_names (content_of p))) name) next.agents) next_content out.nexts (λ k d m.
       let next = get_or out.nexts k d in
@@ -115,19 +116,22 @@ module _ (p : Parsed) (once : AreNamedOnce (content_of p)) (known : unknown_in p
       (not_not (stands_in atom.parties there.agent.name && is_party_at p.atoms next.atom there.agent)
       (not_both (stands_in next.agents there.agent.name) (not (stands_in atom.parties there.agent.name && is_party_at p.atoms next.atom there.agent)) none
       (word_stands next.agents j w there.agent.name q there.is))) in
-      (party_from p once n atom at a there.agent there.at both.0, party_at p once next.atom a there.agent there.at both.1))))
+      (party_from p once n atom at a there.agent there.at both.0, party_at p once next.atom a there.agent there.at both.1)))
     where
       declared_word : (nexts : List PNext) → All (λ (next : NextContent). All (λ name. IsDeclared (agent_names (content_of p)) name) next.agents) (map next_content nexts) → (k : ℕ) (d : PNext) → k < length nexts → (j : ℕ) (w : Word) → j < length (get_or nexts k d).agents →
           IsDeclared (agent_names (content_of p)) (get_or (get_or nexts k d).agents j w).text
       declared_word nexts all k d m j w q = All-unmap (λ name. IsDeclared (agent_names (content_of p)) name) (λ (x : Word). x.text) (get_or nexts k d).agents (All-unmap (λ (next : NextContent). All (λ name. IsDeclared (agent_names (content_of p)) name) next.agents) next_content nexts all k d m) j w q
 
-  pub last_ends : broken rules.LastLeads p ≡ None → All (λ placed. placed.atom ≡ last_number (content_of p) → placed.out.nexts ≡ []) (all_outs (content_of p))
-  last_ends h = by_placed p once (λ n out. n ≡ last_number (content_of p) → out.nexts ≡ []) (λ n atom at i o l is.
-      let out = get_or atom.outs i o in
-      let keeps = kept_by rules.LastLeads p 0 p.atoms h n atom at i o l in
-      none out.nexts keeps.number (is_last p atom) (is_last_at p once n atom at (all_declared p known).last is) keeps.kept)
+  pub no_stranger : broken rules.NextStranger p ≡ None → Holds NoStranger (content_of p)
+  no_stranger h = by_placed p once (λ n out. All (HasNoStranger (content_of p) n) out.nexts) (λ n atom at i d l. strangers_kept n atom at i d l (kept_by rules.NextStranger p 0 p.atoms h n atom at i d l))
+
+  pub ends_kept : (n : ℕ) (atom : PAtom) → slice_get p.atoms n ≡ Some atom → (i : ℕ) (d : POut) → i < length atom.outs → Keeps rules.LastLeads p atom (get_or atom.outs i d) → EndsLast (content_of p) n (out_content (get_or atom.outs i d))
+  ends_kept n atom at i d l keeps is = none (get_or atom.outs i d).nexts keeps.number (is_last p atom) (is_last_at p once n atom at (all_declared p known).last is) keeps.kept
     where
       none : (nexts : List PNext) (o : ℕ) (b : Bool) → b ≡ true → cond b (option_map (λ (next : PNext). fault_on next.atom.line (kinds.LastLeads (record { 0 = o }))) (slice_get nexts 0)) None ≡ None → map next_content nexts ≡ []
       none [] o b e k = refl
       none (next ∷ nexts) o true e k = absurd cc
       none (next ∷ nexts) o false e k = absurd (false≢true e)
+
+  pub last_ends : broken rules.LastLeads p ≡ None → Holds LastEnds (content_of p)
+  last_ends h = by_placed p once (EndsLast (content_of p)) (λ n atom at i d l. ends_kept n atom at i d l (kept_by rules.LastLeads p 0 p.atoms h n atom at i d l))

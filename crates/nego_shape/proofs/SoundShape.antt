@@ -76,6 +76,11 @@ all_covered sizes cases h d l =
     let none = position_none (λ e. not (list_any (λ case. covers case (split sizes e)) cases)) (range_with_len 0 (data_count sizes)) h d 0 (subst (λ n. d < n) (sym (length-range_with_len 0 (data_count sizes))) l) in
     not_not (list_any (λ case. covers case (split sizes d)) cases) (subst (λ e. not (list_any (λ case. covers case (split sizes e)) cases) ≡ false) is none)
 
+pub covered_out : (p : Parsed) (o : ℕ) (out : POut) → not_total_at p o out ≡ None → IsAllCovered (content_of p) (out_content out)
+covered_out p o out h =
+    all_covered (sizes_in (content_of p)) (cases_in (content_of p) (out_content out))
+    (map_none (λ d. fault_on out.name.line (kinds.NotTotal (record { 0 = o }) d)) (first_uncovered (sizes_in (content_of p)) (cases_in (content_of p) (out_content out))) h)
+
 total_from : (p : Parsed) (o : ℕ) (atoms : List PAtom) → not_total_from p o atoms ≡ None → All (λ (atom : PAtom). All (λ (out : POut). IsAllCovered (content_of p) (out_content out)) atom.outs) atoms
 unfolding not_total_from
 total_from p o [] h = All-nil (λ (atom : PAtom). All (λ (out : POut). IsAllCovered (content_of p) (out_content out)) atom.outs)
@@ -83,8 +88,7 @@ total_from p o (atom ∷ atoms) h =
     let two = or_none (not_total_among p o atom.outs) (not_total_from p (o + length atom.outs) atoms) h in
     All-cons (λ (x : PAtom). All (λ (out : POut). IsAllCovered (content_of p) (out_content out)) x.outs) atom atoms
     (numbered_none (λ i out. not_total_at p (o + i) out) (λ (out : POut). IsAllCovered (content_of p) (out_content out))
-    (λ i out e. all_covered (sizes_in (content_of p)) (cases_in (content_of p) (out_content out))
-    (map_none (λ d. fault_on out.name.line (kinds.NotTotal (record { 0 = o + i }) d)) (first_uncovered (sizes_in (content_of p)) (cases_in (content_of p) (out_content out))) e))
+    (λ i out e. covered_out p (o + i) out e)
     0 atom.outs two.0)
     (total_from p (o + length atom.outs) atoms two.1)
 

@@ -15,7 +15,7 @@ use Rattle.nego_data.specs.declared.cases.Case.{Case}
 use Rattle.nego_data.specs.declared.joint_data.SizeFault.{SizeFault}
 use Rattle.nego_data.specs.declared.joint_data.SizeFault.TheVariants as faults
 use Rattle.nego_data.specs.Cases.{covers}
-use Rattle.nego_data.specs.CaseForm.{FitsSize, IsFirstUncovered}
+use Rattle.nego_data.specs.CaseForm.{AssignsBelow, FitsSize, IsFirstUncovered}
 use Rattle.nego_data.specs.Data.{data_count, split}
 use Rattle.nego_data.specs.Sizes.{HasFault}
 use Rattle.nego_model.proofs.diagrams.Readers.{mapped_at}
@@ -38,17 +38,18 @@ use Rattle.nego_shape.specs.Laws.{kind_of}
 use Rattle.nego_shape.specs.Made.{placed_at}
 use Rattle.nego_shape.specs.Told.{IsSo, is_named}
 use Rattle.nego_shape.specs.Naming.{PlacedOut, place_of, places_of, agent_names, atom_names, sizes_in, all_outs, case_in, cases_in, set_in, term_in, leads_to}
-use Rattle.nego_shape.specs.Shaped.{AreNamedOnce, AreAllDeclared, IsDeclared, IsParty}
+use Rattle.nego_shape.specs.Shaped.{AreNamedOnce, AreAllDeclared, IsDeclared, IsParty, SendsAll, HasNoStranger, EndsLast, NamesParties, IsAllCovered, last_number}
 use Rattle.nego_shape.specs.Shaped as shaped
 use Rattle.nego_shape.specs.Faults.{fault_on, same, stands_in, is_party_at, out_names, no_agent, twice_in, unknown_in, no_party, no_party_at, no_outcome, no_outcome_at, lacks, agent_fault, is_last, is_missing, is_stranger, next_stranger_on, atom_number, case_line, case_names, is_outside, not_party_on, is_overfull, is_too_large, value_too_large_on, broken_at, zero_size, zero_size_at, size_too_large, size_too_large_at, joint_from, joint_too_large, size_fault, first_uncovered, not_total, shape_fault}
 use Rattle.nego_shape.proofs.FirstLaws.{or_found, or_missed}
 use Rattle.nego_shape.proofs.ListPlaces.{is_in_at}
-use Rattle.nego_shape.proofs.Misses.{not_not}
+use Rattle.nego_shape.proofs.Misses.{not_not, not_both}
 use Rattle.nego_shape.proofs.PartsMade.{sizes_read}
 use Rattle.nego_shape.proofs.Sought.{position_or_len-map, position_or_len-within}
-use Rattle.nego_shape.proofs.SoundCases.{size_there}
+use Rattle.nego_shape.proofs.SoundCases.{size_there, parties_kept, below_kept}
+use Rattle.nego_shape.proofs.SoundShape.{covered_out}
 use Rattle.nego_shape.proofs.SoundPlaces.{some_below, all_slice, any_at, agent_at, place_is, stand, party_from, party_stands, party_at, last_is, is_last_at}
-use Rattle.nego_shape.proofs.SoundRules.{All-unmap, some_party, some_outcome}
+use Rattle.nego_shape.proofs.SoundRules.{All-unmap, some_party, some_outcome, sent_from, sends_kept, strangers_kept, ends_kept}
 use Rattle.nego_shape.proofs.FaultlessSearches.{any_passes}
 use Rattle.nego_shape.proofs.FaultlessPlaces.{agent_place, party_named, sent_named}
 use Rattle.nego_shape.proofs.FaultlessCases.{case_has}
@@ -167,10 +168,10 @@ module _ (p : Parsed) where
   -- outcomes whose cases leave joint data uncovered
   partial_tells : (x : ShapeFault) → not_total p ≡ Some x → Tells x
   partial_tells x h =
-      let r = partial p x h in
+      let r = partial (λ n out. IsAllCovered (content_of p) out) p x (λ m atom at i d l j e. covered_out p j (get_or atom.outs i d) e) h in
       let cases = cases_in (content_of p) (out_content r.out) in
       let two = map_some (λ d. fault_on r.out.name.line (kinds.NotTotal (record { 0 = r.number }) d)) (first_uncovered (sizes_in (content_of p)) cases) x r.gives in
-      subst Tells two.2 (placed_at r.place (out_content r.out), r.there, first_is (sizes_in (content_of p)) cases two.0 two.1)
+      subst Tells two.2 (record { item = placed_at r.place (out_content r.out); at = r.there; so = first_is (sizes_in (content_of p)) cases two.0 two.1; before = r.before })
 
   -- an atom's number is its name's place
   number_is : (name : Word) → atom_number p.atoms name ≡ place_of name.text (atom_names (content_of p))
@@ -202,60 +203,6 @@ module _ (p : Parsed) where
     last_tells : (x : ShapeFault) → lacks kinds.LastLacks p.last p ≡ Some x → Tells x
     last_tells x h = let r = lacks_tells kinds.LastLacks p.last x declared.last h in subst Tells r.4 (r.1, r.2, r.3)
 
-    missing_tells : (x : ShapeFault) → OutFound (broken_at rules.NextMissing p) p.atoms x → Tells x
-    missing_tells x r = go (is_last p r.atom) refl r.gives
-      where
-        go : (b : Bool) → is_last p r.atom ≡ b → cond b None (agent_fault r.out.name.line (kinds.NextMissing (record { 0 = r.number })) (is_missing r.atom r.out) p.agents) ≡ Some x → Tells x
-        go true e k = absurd (none-some x k)
-        go false e k =
-            let s = agent_some r.out.name.line (kinds.NextMissing (record { 0 = r.number })) (is_missing r.atom r.out) p.agents x k in
-            let sent = list_any (λ (next : PNext). stands_in next.agents s.agent.name) r.out.nexts in
-            let two = and_parts (stands_in r.atom.parties s.agent.name) (not sent) s.passes in
-            subst Tells s.is (
-              placed_at r.place (out_content r.out),
-              r.there,
-              (
-                λ i. false≢true (sym e ∙ is_last_at p once r.place r.atom r.at declared.last i),
-                party_from p once r.place r.atom r.at s.number s.agent s.at two.0,
-                λ h. not_so sent two.1 (sent_named p once s.number s.agent s.at r.out.nexts h),
-              ),
-            )
-
-    stranger_tells : (x : ShapeFault) → OutFound (broken_at rules.NextStranger p) p.atoms x → Tells x
-    stranger_tells x r =
-        let c = content_of p in
-        let next = among_some (next_stranger_on p r.atom r.number) r.out.nexts x r.gives in
-        let name = next.item.atom in
-        let n = atom_number p.atoms name in
-        let s = agent_some name.line (λ a. kinds.NextStranger (record { 0 = r.number }) a (record { 0 = n })) (is_stranger p r.atom next.item) p.agents x next.gives in
-        let parties = stands_in r.atom.parties s.agent.name && is_party_at p.atoms name s.agent in
-        let two = and_parts (stands_in next.item.agents s.agent.name) (not parties) s.passes in
-        let known = all_slice (λ (m : PNext). IsDeclared (atom_names c) m.atom.text) r.out.nexts next.place next.item
-        (All-unmap (λ (m : NextContent). IsDeclared (atom_names c) m.atom) next_content r.out.nexts
-        (all_slice (λ (placed : PlacedOut). All (λ (m : NextContent). IsDeclared (atom_names c) m.atom) placed.out.nexts) (all_outs c) r.number (placed_at r.place (out_content r.out)) declared.next_atoms r.there))
-        next.at in
-        subst Tells s.is (
-          placed_at r.place (out_content r.out),
-          r.there,
-          (
-            any_passes (leads_to c s.number n) (map next_content r.out.nexts) next.place (next_content next.item) (mapped_at next_content r.out.nexts next.place next.item next.at)
-                (and_from (place_of name.text (atom_names c) == n) (is_in s.number (places_of (next_content next.item).agents (agent_names c)))
-                (eq-eqb (place_of name.text (atom_names c)) n (sym (number_is name))) (stand p once s.number s.agent s.at next.item.agents ∙ two.0)),
-            λ both. not_so parties two.1 (and_from (stands_in r.atom.parties s.agent.name) (is_party_at p.atoms name s.agent)
-                (party_stands p once r.place r.atom r.at s.number s.agent s.at both.0)
-                (party_named p once name s.number s.agent s.at known (subst (λ m. IsParty c m s.number) (number_is name) both.1))),
-          ),
-        )
-
-    leads_tells : (x : ShapeFault) → OutFound (broken_at rules.LastLeads p) p.atoms x → Tells x
-    leads_tells x r = go (is_last p r.atom) refl r.gives
-      where
-        go : (b : Bool) → is_last p r.atom ≡ b → cond b (option_map (λ (next : PNext). fault_on next.atom.line (kinds.LastLeads (record { 0 = r.number }))) (slice_get r.out.nexts 0)) None ≡ Some x → Tells x
-        go true e k =
-            let m = map_some (λ (next : PNext). fault_on next.atom.line (kinds.LastLeads (record { 0 = r.number }))) (slice_get r.out.nexts 0) x k in
-            subst Tells m.2 (placed_at r.place (out_content r.out), r.there, (last_is p once r.place r.atom r.at e, some_ahead next_content r.out.nexts m.0 m.1))
-        go false e k = absurd (none-some x k)
-
     -- an agent of a name in a case is one of those that the case names
     named_in : (a : ℕ) (agent : PAgent) → slice_get p.agents a ≡ Some agent → (case : PCase) → case_names agent.name case ≡ true → is_named (content_of p) a (case_content case) ≡ true
     named_in a agent at case t =
@@ -267,40 +214,101 @@ module _ (p : Parsed) where
         subst (λ m. is_in m (places_of named names) ≡ true) (place_is names once.agents a agent.name.text (agent_at p once a agent at))
         (case_has (λ name. is_in (place_of name names) (places_of named names) ≡ true) agent.name case t each)
 
-    outside_tells : (x : ShapeFault) → OutFound (broken_at rules.NotParty p) p.atoms x → Tells x
-    outside_tells x r =
-        let c = content_of p in
-        let case = among_some (not_party_on p r.atom r.number) r.out.cases x r.gives in
-        let s = agent_some (case_line case.item) (kinds.NotParty (record { 0 = r.number })) (is_outside r.atom case.item) p.agents x case.gives in
-        let two = and_parts (case_names s.agent.name case.item) (not (stands_in r.atom.parties s.agent.name)) s.passes in
-        subst Tells s.is (
-          placed_at r.place (out_content r.out),
-          r.there,
-          (
-            any_passes (is_named c s.number) (map case_content r.out.cases) case.place (case_content case.item) (mapped_at case_content r.out.cases case.place case.item case.at)
-                (named_in s.number s.agent s.at case.item two.0),
-            λ party. not_so (stands_in r.atom.parties s.agent.name) two.1 (party_stands p once r.place r.atom r.at s.number s.agent s.at party),
-          ),
-        )
-
     module _ (known : unknown_in p ≡ None) where
+      missing_tells : (x : ShapeFault) → OutFound (broken_at rules.NextMissing p) (SendsAll (content_of p)) p.atoms x → Tells x
+      missing_tells x r = go (is_last p r.atom) refl r.gives
+        where
+          go : (b : Bool) → is_last p r.atom ≡ b → cond b None (agent_fault r.out.name.line (kinds.NextMissing (record { 0 = r.number })) (is_missing r.atom r.out) p.agents) ≡ Some x → Tells x
+          go true e k = absurd (none-some x k)
+          go false e k =
+              let s = agent_some r.out.name.line (kinds.NextMissing (record { 0 = r.number })) (is_missing r.atom r.out) p.agents x k in
+              let sent = list_any (λ (next : PNext). stands_in next.agents s.agent.name) r.out.nexts in
+              let two = and_parts (stands_in r.atom.parties s.agent.name) (not sent) s.passes in
+              let other : r.place ≢ last_number (content_of p) = λ i. false≢true (sym e ∙ is_last_at p once r.place r.atom r.at declared.last i) in
+              subst Tells s.is (record {
+                item = placed_at r.place (out_content r.out);
+                at = r.there;
+                so = (
+                  (other, party_from p once r.place r.atom r.at s.number s.agent s.at two.0, λ h. not_so sent two.1 (sent_named p once s.number s.agent s.at r.out.nexts h)),
+                  λ b l miss.
+                      let there = slice_get-get_or p.agents b s.agent (let inside = some_below p.agents s.number s.agent s.at in omega (arith, l, inside)) in
+                      let agent = get_or p.agents b s.agent in
+                      miss.2 (sent_from p once known b agent there r.out.nexts (not_not (list_any (λ (next : PNext). stands_in next.agents agent.name) r.out.nexts)
+                      (not_both (stands_in r.atom.parties agent.name) (not (list_any (λ (next : PNext). stands_in next.agents agent.name) r.out.nexts)) (s.before b agent there l) (party_stands p once r.place r.atom r.at b agent there miss.1)))),
+                );
+                before = r.before;
+              })
+
+      stranger_tells : (x : ShapeFault) → OutFound (broken_at rules.NextStranger p) (λ n out. All (HasNoStranger (content_of p) n) out.nexts) p.atoms x → Tells x
+      stranger_tells x r =
+          let c = content_of p in
+          let next = among_some (next_stranger_on p r.atom r.number) r.out.nexts x r.gives in
+          let name = next.item.atom in
+          let n = atom_number p.atoms name in
+          let s = agent_some name.line (λ a. kinds.NextStranger (record { 0 = r.number }) a (record { 0 = n })) (is_stranger p r.atom next.item) p.agents x next.gives in
+          let parties = stands_in r.atom.parties s.agent.name && is_party_at p.atoms name s.agent in
+          let two = and_parts (stands_in next.item.agents s.agent.name) (not parties) s.passes in
+          let declared_atom = all_slice (λ (m : PNext). IsDeclared (atom_names c) m.atom.text) r.out.nexts next.place next.item
+          (All-unmap (λ (m : NextContent). IsDeclared (atom_names c) m.atom) next_content r.out.nexts
+          (all_slice (λ (placed : PlacedOut). All (λ (m : NextContent). IsDeclared (atom_names c) m.atom) placed.out.nexts) (all_outs c) r.number (placed_at r.place (out_content r.out)) declared.next_atoms r.there))
+          next.at in
+          subst Tells s.is (record {
+            item = placed_at r.place (out_content r.out);
+            at = r.there;
+            so = (
+              any_passes (leads_to c s.number n) (map next_content r.out.nexts) next.place (next_content next.item) (mapped_at next_content r.out.nexts next.place next.item next.at)
+                  (and_from (place_of name.text (atom_names c) == n) (is_in s.number (places_of (next_content next.item).agents (agent_names c)))
+                  (eq-eqb (place_of name.text (atom_names c)) n (sym (number_is name))) (stand p once s.number s.agent s.at next.item.agents ∙ two.0)),
+              λ both. not_so parties two.1 (and_from (stands_in r.atom.parties s.agent.name) (is_party_at p.atoms name s.agent)
+                  (party_stands p once r.place r.atom r.at s.number s.agent s.at both.0)
+                  (party_named p once name s.number s.agent s.at declared_atom (subst (λ m. IsParty c m s.number) (number_is name) both.1))),
+            );
+            before = r.before;
+          })
+
+      leads_tells : (x : ShapeFault) → OutFound (broken_at rules.LastLeads p) (EndsLast (content_of p)) p.atoms x → Tells x
+      leads_tells x r = go (is_last p r.atom) refl r.gives
+        where
+          go : (b : Bool) → is_last p r.atom ≡ b → cond b (option_map (λ (next : PNext). fault_on next.atom.line (kinds.LastLeads (record { 0 = r.number }))) (slice_get r.out.nexts 0)) None ≡ Some x → Tells x
+          go true e k =
+              let m = map_some (λ (next : PNext). fault_on next.atom.line (kinds.LastLeads (record { 0 = r.number }))) (slice_get r.out.nexts 0) x k in
+              subst Tells m.2 (record { item = placed_at r.place (out_content r.out); at = r.there; so = (last_is p once r.place r.atom r.at e, some_ahead next_content r.out.nexts m.0 m.1); before = r.before })
+          go false e k = absurd (none-some x k)
+
+      outside_tells : (x : ShapeFault) → OutFound (broken_at rules.NotParty p) (λ n out. All (NamesParties (content_of p) n) out.cases) p.atoms x → Tells x
+      outside_tells x r =
+          let c = content_of p in
+          let case = among_some (not_party_on p r.atom r.number) r.out.cases x r.gives in
+          let s = agent_some (case_line case.item) (kinds.NotParty (record { 0 = r.number })) (is_outside r.atom case.item) p.agents x case.gives in
+          let two = and_parts (case_names s.agent.name case.item) (not (stands_in r.atom.parties s.agent.name)) s.passes in
+          subst Tells s.is (record {
+            item = placed_at r.place (out_content r.out);
+            at = r.there;
+            so = (
+              any_passes (is_named c s.number) (map case_content r.out.cases) case.place (case_content case.item) (mapped_at case_content r.out.cases case.place case.item case.at)
+                  (named_in s.number s.agent s.at case.item two.0),
+              λ party. not_so (stands_in r.atom.parties s.agent.name) two.1 (party_stands p once r.place r.atom r.at s.number s.agent s.at party),
+            );
+            before = r.before;
+          })
+
       not_fitting : (term : PTerm) (size : ℕ) → is_too_large size term ≡ true → FitsSize (term_in (content_of p) (term_content term)) size → ⊥
       not_fitting terms.Any size t h = false≢true t
       not_fitting (terms.Number n) size t h = let large = leb-true size n t in omega (arith, large, h)
       not_fitting (terms.Plus name n) size t h = false≢true t
       not_fitting (terms.Minus name n) size t h = false≢true t
 
-      overfull_tells : (x : ShapeFault) → OutFound (broken_at rules.ValueTooLarge p) p.atoms x → Tells x
+      overfull_tells : (x : ShapeFault) → OutFound (broken_at rules.ValueTooLarge p) (λ n out. All (AssignsBelow (sizes_in (content_of p))) (cases_in (content_of p) out)) p.atoms x → Tells x
       overfull_tells x r =
           let c = content_of p in
           let case = among_some (value_too_large_on p r.number) r.out.cases x r.gives in
           let s = agent_some (case_line case.item) (kinds.ValueTooLarge (record { 0 = r.number })) (is_overfull case.item) p.agents x case.gives in
           let set = any_at (λ (y : PSet). same s.agent.name y.agent && is_too_large s.agent.size y.term) case.item.sets s.passes in
           let two = and_parts (same s.agent.name set.item.agent) (is_too_large s.agent.size set.item.term) set.passes in
-          subst Tells s.is (
-            placed_at r.place (out_content r.out),
-            r.there,
-            (
+          subst Tells s.is (record {
+            item = placed_at r.place (out_content r.out);
+            at = r.there;
+            so = (
               case.place,
               (
                 case_in c (case_content case.item),
@@ -318,8 +326,9 @@ module _ (p : Parsed) where
                   ),
                 ),
               ),
-            ),
-          )
+            );
+            before = r.before;
+          })
 
   -- what is told is so
   tells : (kind : ShapeKind) → NoneBelow p (rank_of kind) → (x : ShapeFault) → check p (rank_of kind) ≡ Some x → Tells x
@@ -340,14 +349,32 @@ module _ (p : Parsed) where
   tells (kinds.NoOutcome n) none x h = outcome_tells x h
   tells (kinds.FirstLacks a) none x h = first_tells (once_below p 8 (lit< tt) none) (declared_below p 8 (lit< tt) none) x h
   tells (kinds.LastLacks a) none x h = last_tells (once_below p 9 (lit< tt) none) (declared_below p 9 (lit< tt) none) x h
-  tells (kinds.NextMissing o a) none x h = missing_tells (once_below p 10 (lit< tt) none) (declared_below p 10 (lit< tt) none) x (breach rules.NextMissing p x h)
-  tells (kinds.NextStranger o a n) none x h = stranger_tells (once_below p 11 (lit< tt) none) (declared_below p 11 (lit< tt) none) x (breach rules.NextStranger p x h)
-  tells (kinds.LastLeads o) none x h = leads_tells (once_below p 12 (lit< tt) none) (declared_below p 12 (lit< tt) none) x (breach rules.LastLeads p x h)
-  tells (kinds.NotParty o a) none x h = outside_tells (once_below p 13 (lit< tt) none) (declared_below p 13 (lit< tt) none) x (breach rules.NotParty p x h)
+  tells (kinds.NextMissing o a) none x h =
+      let once = once_below p 10 (lit< tt) none in
+      let known = known_below p 10 (lit< tt) none in
+      missing_tells once (declared_below p 10 (lit< tt) none) known x (breach rules.NextMissing (SendsAll (content_of p)) p x (λ m atom at i d l j e. sends_kept p once known m atom at i d l (record { number = j; kept = e })) h)
+  tells (kinds.NextStranger o a n) none x h =
+      let once = once_below p 11 (lit< tt) none in
+      let known = known_below p 11 (lit< tt) none in
+      stranger_tells once (declared_below p 11 (lit< tt) none) known x
+      (breach rules.NextStranger (λ n out. All (HasNoStranger (content_of p) n) out.nexts) p x (λ m atom at i d l j e. strangers_kept p once known m atom at i d l (record { number = j; kept = e })) h)
+  tells (kinds.LastLeads o) none x h =
+      let once = once_below p 12 (lit< tt) none in
+      let known = known_below p 12 (lit< tt) none in
+      leads_tells once (declared_below p 12 (lit< tt) none) known x (breach rules.LastLeads (EndsLast (content_of p)) p x (λ m atom at i d l j e. ends_kept p once known m atom at i d l (record { number = j; kept = e })) h)
+  tells (kinds.NotParty o a) none x h =
+      let once = once_below p 13 (lit< tt) none in
+      let known = known_below p 13 (lit< tt) none in
+      outside_tells once (declared_below p 13 (lit< tt) none) known x
+      (breach rules.NotParty (λ n out. All (NamesParties (content_of p) n) out.cases) p x (λ m atom at i d l j e. parties_kept p once known m atom at i d l (record { number = j; kept = e })) h)
   tells (kinds.ZeroSize a) none x h = zero_tells x h
   tells (kinds.SizeTooLarge a) none x h = large_tells x (none 14 (lit< tt)) h
   tells (kinds.JointTooLarge a) none x h = joint_tells x (none 14 (lit< tt)) (none 15 (lit< tt)) h
-  tells (kinds.ValueTooLarge o a) none x h = overfull_tells (once_below p 17 (lit< tt) none) (declared_below p 17 (lit< tt) none) (known_below p 17 (lit< tt) none) x (breach rules.ValueTooLarge p x h)
+  tells (kinds.ValueTooLarge o a) none x h =
+      let once = once_below p 17 (lit< tt) none in
+      let known = known_below p 17 (lit< tt) none in
+      overfull_tells once (declared_below p 17 (lit< tt) none) known x
+      (breach rules.ValueTooLarge (λ n out. All (AssignsBelow (sizes_in (content_of p))) (cases_in (content_of p) out)) p x (λ m atom at i d l j e. below_kept p once known m atom at i d l (record { number = j; kept = e })) h)
   tells (kinds.NotTotal o d) none x h = partial_tells x h
 
   pub told_is_so : (fault : ShapeFault) → shape_fault p ≡ Some fault → IsSo (content_of p) fault.kind

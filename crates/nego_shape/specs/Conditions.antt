@@ -8,8 +8,8 @@ use Rattle.nego_reader.specs.Content.{Content}
 use Rattle.nego_shape.specs.declared.fault.Many.TheVariants as many
 use Rattle.nego_shape.specs.declared.fault.ShapeKind.{ShapeKind}
 use Rattle.nego_shape.specs.declared.fault.ShapeKind.TheVariants as kinds
-use Rattle.nego_shape.specs.Naming.{place_of, atom_names, sizes_in, all_outs, cases_in}
-use Rattle.nego_shape.specs.Shaped.{AreNamedOnce, AreAllDeclared, IsParty, IsNamedParty, IsSent, IsAllCovered, first_number, last_number, case_names}
+use Rattle.nego_shape.specs.Naming.{sizes_in, all_outs, cases_in}
+use Rattle.nego_shape.specs.Shaped.{AreNamedOnce, AreAllDeclared, IsParty, SendsAll, HasNoStranger, EndsLast, NamesParties, IsAllCovered, first_number, last_number}
 
 pub data Condition : Type 0 where
   SomeAgent : Condition
@@ -56,10 +56,10 @@ Holds SomeParty c = All (λ atom. atom.parties ≢ []) c.atoms
 Holds SomeOutcome c = All (λ atom. atom.outs ≢ []) c.atoms
 Holds AllBegin c = (a : ℕ) → a < length c.agents → IsParty c (first_number c) a
 Holds AllEnd c = (a : ℕ) → a < length c.agents → IsParty c (last_number c) a
-Holds AllSent c = All (λ placed. placed.atom ≢ last_number c → (a : ℕ) → IsParty c placed.atom a → IsSent c placed.out.nexts a) (all_outs c)
-Holds NoStranger c = All (λ placed. All (λ next. All (λ name. IsNamedParty c placed.atom name × IsNamedParty c (place_of next.atom (atom_names c)) name) next.agents) placed.out.nexts) (all_outs c)
-Holds LastEnds c = All (λ placed. placed.atom ≡ last_number c → placed.out.nexts ≡ []) (all_outs c)
-Holds PartiesAlone c = All (λ placed. All (λ case. All (IsNamedParty c placed.atom) (case_names case)) placed.out.cases) (all_outs c)
+Holds AllSent c = All (λ placed. SendsAll c placed.atom placed.out) (all_outs c)
+Holds NoStranger c = All (λ placed. All (HasNoStranger c placed.atom) placed.out.nexts) (all_outs c)
+Holds LastEnds c = All (λ placed. EndsLast c placed.atom placed.out) (all_outs c)
+Holds PartiesAlone c = All (λ placed. All (NamesParties c placed.atom) placed.out.cases) (all_outs c)
 Holds NoZeroSize c = All (λ size. 0 < size) (sizes_in c)
 Holds NoLargeSize c = All (λ size. size ≤ 64) (sizes_in c)
 Holds NoLargeJoint c = data_count (sizes_in c) ≤ 1024

@@ -1,5 +1,5 @@
 -- What the conditions of the shape of a diagram say of a text's content.
-use Rattle.std.specs.Prelude.{◌≢◌, ℕ, ◌<◌, List, [], ◌∷◌, ◌++◌, length, map, filter, All, AllPairs, IsTrue}
+use Rattle.std.specs.Prelude.{◌≡◌, ◌≢◌, ℕ, ◌<◌, List, [], ◌∷◌, ◌++◌, length, map, filter, All, AllPairs, IsTrue}
 use Rattle.std.specs.List.{flat_map, list_any}
 use Rattle.std.specs.Str.{bytes_eq}
 use Rattle.nego_base.specs.Members.{is_in}
@@ -86,6 +86,22 @@ IsNamedParty c n name = IsParty c n (place_of name (agent_names c))
 -- agent a stands on some of the next lines
 abbrev pub IsSent : Content → List NextContent → ℕ → Type 0
 IsSent c nexts a = IsTrue (list_any (λ next. is_in a (places_of next.agents (agent_names c))) nexts)
+
+-- each party of atom n, unless it is the last, stands on some next line of its outcome
+abbrev pub SendsAll : Content → ℕ → OutContent → Type 0
+SendsAll c n out = n ≢ last_number c → (a : ℕ) → IsParty c n a → IsSent c out.nexts a
+
+-- who stands on the next line of an outcome of atom n is a party of it and of the next atom
+abbrev pub HasNoStranger : Content → ℕ → NextContent → Type 0
+HasNoStranger c n next = All (λ name. IsNamedParty c n name × IsNamedParty c (place_of next.atom (atom_names c)) name) next.agents
+
+-- an outcome of the last atom has no next line
+abbrev pub EndsLast : Content → ℕ → OutContent → Type 0
+EndsLast c n out = n ≡ last_number c → out.nexts ≡ []
+
+-- the agents of a case of an outcome of atom n are parties of it
+abbrev pub NamesParties : Content → ℕ → CaseContent → Type 0
+NamesParties c n case = All (IsNamedParty c n) (case_names case)
 
 -- each joint data is covered by some case of the outcome
 abbrev pub IsAllCovered : Content → OutContent → Type 0

@@ -4,12 +4,12 @@ use Rattle.std.specs.List.{list_any, flat_map, Contains}
 use Rattle.nego_base.specs.Members.{is_in}
 use Rattle.nego_data.specs.declared.joint_data.SizeFault.TheVariants as faults
 use Rattle.nego_data.specs.Sizes.{HasFault}
-use Rattle.nego_data.specs.CaseForm.{FitsSize, IsFirstUncovered}
+use Rattle.nego_data.specs.CaseForm.{AssignsBelow, FitsSize, IsFirstUncovered}
 use Rattle.nego_reader.specs.Content.{Content, OutContent, CaseContent}
 use Rattle.nego_shape.specs.declared.fault.ShapeKind.{ShapeKind}
 use Rattle.nego_shape.specs.declared.fault.ShapeKind.TheVariants as kinds
-use Rattle.nego_shape.specs.Naming.{places_of, agent_names, atom_names, sizes_in, all_outs, cases_in, leads_to}
-use Rattle.nego_shape.specs.Shaped.{IsDeclared, IsParty, IsSent, first_number, last_number, case_names}
+use Rattle.nego_shape.specs.Naming.{PlacedOut, places_of, agent_names, atom_names, sizes_in, all_outs, cases_in, leads_to}
+use Rattle.nego_shape.specs.Shaped.{IsDeclared, IsParty, IsSent, SendsAll, HasNoStranger, EndsLast, NamesParties, IsAllCovered, first_number, last_number, case_names}
 
 -- the list has an item at this place, of which this holds
 abbrev pub HasAt : {A : Type 0} → List A → ℕ → (A → Type 0) → Type 0
@@ -41,17 +41,33 @@ used_agents c = flat_map (λ atom. atom.parties ++ flat_map agents_of_out atom.o
 abbrev pub used_atoms : Content → List (List ℕ)
 used_atoms c = flat_map (λ atom. flat_map atoms_of_out atom.outs) c.atoms ++ (c.first ∷ c.last ∷ [])
 
+-- Of the list the item at this place is so, and each item before it is sound.
+pub record HasFirst {A : Type 0} (xs : List A) (i : ℕ) (IsSo Sound : A → Type 0) : Type 0 where
+  pub item : A
+  pub at : slice_get xs i ≡ Some item
+  pub so : IsSo item
+  pub before : All Sound (take i xs)
+
+-- the number has the property, and no lesser one
+abbrev pub IsLeast : (ℕ → Type 0) → ℕ → Type 0
+IsLeast P a = P a × ((b : ℕ) → b < a → ¬ P b)
+
+-- the party stands on no next line of the outcome, which is of another atom than the last
+abbrev pub IsMissing : Content → PlacedOut → ℕ → Type 0
+IsMissing c placed a = (placed.atom ≢ last_number c) × IsParty c placed.atom a × (¬ IsSent c placed.out.nexts a)
+
 -- What a fault of this kind tells of the content is so:
 -- the name is used as an agent's, and no agent has it, or as an atom's, and no atom has it;
 -- the atom is the first that has no party, or that has no outcome;
 -- the agent is the least that is no party of the first atom, or of the last;
--- the outcome is of another atom than the last, the agent is a party of it, and stands on none of the outcome's next lines;
--- the agent stands on a next line of the outcome for this atom, and isn't a party of both this and the outcome's atom;
--- the outcome is of the last atom, and has a next line;
--- the agent stands in a case of the outcome, and is no party of its atom;
+-- the outcome is the first of those of other atoms than the last a party of which stands on none of its next lines, and the
+-- agent is the least such party;
+-- it is the first with a stranger: the agent stands on a next line for this atom, and isn't a party of both this and its own;
+-- it is the first of the last atom that has a next line;
+-- it is the first in whose cases an agent stands who is no party of its atom, as this one;
 -- the sizes have this fault;
--- a case of the outcome assigns the agent a number that isn't below its size;
--- the joint data are the least that no case of the outcome covers.
+-- it is the first a case of which assigns an agent, as this one, a number that isn't below the agent's size;
+-- it is the first whose cases leave joint data uncovered, and these are the least of them.
 abbrev pub IsSo : Content → ShapeKind → Type 0
 IsSo c kinds.NoAgent = ⊤
 IsSo c (kinds.TooMany what) = ⊤
@@ -61,13 +77,14 @@ IsSo c (kinds.NoParty n) = HasFirstAt c.atoms n.0 (λ atom. atom.parties ≡ [])
 IsSo c (kinds.NoOutcome n) = HasFirstAt c.atoms n.0 (λ atom. atom.outs ≡ [])
 IsSo c (kinds.FirstLacks a) = (a.0 < length c.agents) × (¬ IsParty c (first_number c) a.0) × ((b : ℕ) → b < a.0 → IsParty c (first_number c) b)
 IsSo c (kinds.LastLacks a) = (a.0 < length c.agents) × (¬ IsParty c (last_number c) a.0) × ((b : ℕ) → b < a.0 → IsParty c (last_number c) b)
-IsSo c (kinds.NextMissing o a) = HasAt (all_outs c) o.0 (λ placed. (placed.atom ≢ last_number c) × IsParty c placed.atom a.0 × (¬ IsSent c placed.out.nexts a.0))
-IsSo c (kinds.NextStranger o a n) = HasAt (all_outs c) o.0 (λ placed. IsTrue (list_any (leads_to c a.0 n.0) placed.out.nexts) × (¬ (IsParty c placed.atom a.0 × IsParty c n.0 a.0)))
-IsSo c (kinds.LastLeads o) = HasAt (all_outs c) o.0 (λ placed. (placed.atom ≡ last_number c) × (placed.out.nexts ≢ []))
-IsSo c (kinds.NotParty o a) = HasAt (all_outs c) o.0 (λ placed. IsTrue (list_any (is_named c a.0) placed.out.cases) × (¬ IsParty c placed.atom a.0))
+IsSo c (kinds.NextMissing o a) = HasFirst (all_outs c) o.0 (λ placed. IsLeast (IsMissing c placed) a.0) (λ placed. SendsAll c placed.atom placed.out)
+IsSo c (kinds.NextStranger o a n) =
+    HasFirst (all_outs c) o.0 (λ placed. IsTrue (list_any (leads_to c a.0 n.0) placed.out.nexts) × (¬ (IsParty c placed.atom a.0 × IsParty c n.0 a.0))) (λ placed. All (HasNoStranger c placed.atom) placed.out.nexts)
+IsSo c (kinds.LastLeads o) = HasFirst (all_outs c) o.0 (λ placed. (placed.atom ≡ last_number c) × (placed.out.nexts ≢ [])) (λ placed. EndsLast c placed.atom placed.out)
+IsSo c (kinds.NotParty o a) = HasFirst (all_outs c) o.0 (λ placed. IsTrue (list_any (is_named c a.0) placed.out.cases) × (¬ IsParty c placed.atom a.0)) (λ placed. All (NamesParties c placed.atom) placed.out.cases)
 IsSo c (kinds.ZeroSize a) = HasFault (sizes_in c) (faults.ZeroSize a)
 IsSo c (kinds.SizeTooLarge a) = HasFault (sizes_in c) (faults.SizeTooLarge a)
 IsSo c (kinds.JointTooLarge a) = HasFault (sizes_in c) (faults.JointTooLarge a)
 IsSo c (kinds.ValueTooLarge o a) =
-    HasAt (all_outs c) o.0 (λ placed. HasSome (cases_in c placed.out) (λ case. HasSome case.sets (λ set. (set.agent.0 ≡ a.0) × (¬ FitsSize set.term (slice_index (sizes_in c) a.0)))))
-IsSo c (kinds.NotTotal o d) = HasAt (all_outs c) o.0 (λ placed. IsFirstUncovered (sizes_in c) (cases_in c placed.out) d)
+    HasFirst (all_outs c) o.0 (λ placed. HasSome (cases_in c placed.out) (λ case. HasSome case.sets (λ set. (set.agent.0 ≡ a.0) × (¬ FitsSize set.term (slice_index (sizes_in c) a.0))))) (λ placed. All (AssignsBelow (sizes_in c)) (cases_in c placed.out))
+IsSo c (kinds.NotTotal o d) = HasFirst (all_outs c) o.0 (λ placed. IsFirstUncovered (sizes_in c) (cases_in c placed.out) d) (λ placed. IsAllCovered c placed.out)
