@@ -1,11 +1,11 @@
 -- What a told fault of shape says of the text's content.
-use Rattle.std.proofs.Common.{◌≡◌, ◌≢◌, ℕ, ◌+◌, ◌*◌, ◌<◌, ◌≤◌, ◌==◌, Bool, true, false, not, ◌&&◌, nat_lt, cond, List, [], ◌∷◌, length, map, take, get_or, Some, None, slice_get, refl, sym, subst, ap, ◌∙◌, arith, eqb-true, eq-eqb, leb-true, lit<}
+use Rattle.std.proofs.Common.{◌≡◌, ◌≢◌, ℕ, ◌+◌, ◌*◌, ◌<◌, ◌≤◌, ◌==◌, Bool, true, false, not, ◌&&◌, nat_lt, cond, List, [], ◌∷◌, ◌++◌, length, map, take, get_or, Some, None, slice_get, slice_index, suc, refl, sym, subst, ap, ◌∙◌, arith, eqb-true, eq-eqb, leb-true, lit<}
 use Rattle.std.proofs.lemmas.Bool.{false≢true, and_parts, and_from, ltb-false}
-use Rattle.std.proofs.lemmas.Option.{same_Some, none-some, slice_get-get_or}
-use Rattle.std.proofs.lemmas.List.{length-map, get_or-map}
+use Rattle.std.proofs.lemmas.Option.{same_Some, none-some, slice_get-get_or, slice_get-map}
+use Rattle.std.proofs.lemmas.List.{length-map, get_or-map, map-append}
 use Rattle.std.proofs.lemmas.List.FromFn.{get_or-range_with_len, length-range_with_len}
 use Rattle.std.proofs.lemmas.List.Quantifiers.{position-Some}
-use Rattle.std.specs.List.{All, list_any, range_with_len, position, position_or_len, take-map}
+use Rattle.std.specs.List.{All, list_any, range_with_len, position, position_or_len, take-map, flat_map}
 use Rattle.std.specs.Option.{option_or, option_map, unwrap_or}
 use Rattle.std.specs.Str.{bytes_eq}
 use Rattle.nego_base.specs.declared.line.Word.{Word}
@@ -22,6 +22,7 @@ use Rattle.nego_model.proofs.diagrams.Readers.{mapped_at}
 use Rattle.nego_reader.specs.declared.parsed.Parsed.{Parsed}
 use Rattle.nego_reader.specs.declared.parsed.PAgent.{PAgent}
 use Rattle.nego_reader.specs.declared.parsed.PAtom.{PAtom}
+use Rattle.nego_reader.specs.declared.parsed.POut.{POut}
 use Rattle.nego_reader.specs.declared.parsed.PNext.{PNext}
 use Rattle.nego_reader.specs.declared.parsed.PCase.{PCase}
 use Rattle.nego_reader.specs.declared.parsed.PSet.{PSet}
@@ -36,7 +37,7 @@ use Rattle.nego_shape.specs.declared.fault.ShapeKind.TheVariants as kinds
 use Rattle.nego_shape.proofs.ConditionLaws.{rank_of}
 use Rattle.nego_shape.specs.Laws.{kind_of}
 use Rattle.nego_shape.specs.Made.{placed_at}
-use Rattle.nego_shape.specs.Told.{IsSo, is_named}
+use Rattle.nego_shape.specs.Told.{IsSo, HasSome, IsOn, is_named}
 use Rattle.nego_shape.specs.Naming.{PlacedOut, place_of, places_of, agent_names, atom_names, sizes_in, all_outs, case_in, cases_in, set_in, term_in, leads_to}
 use Rattle.nego_shape.specs.Shaped.{AreNamedOnce, AreAllDeclared, IsDeclared, IsParty, SendsAll, HasNoStranger, EndsLast, NamesParties, IsAllCovered, last_number}
 use Rattle.nego_shape.specs.Shaped as shaped
@@ -94,32 +95,54 @@ first_is sizes cases d h =
     so true q = refl
     so false q = absurd (false≢true (sym q))
 
--- the fault that is told of a product
-joint_told : (product n : ℕ) (agents : List PAgent) (x : ShapeFault) → joint_from product n agents ≡ Some x → (line : ℕ) × (a : ℕ) × (fault_on line (kinds.JointTooLarge (record { 0 = a })) ≡ x)
+-- the fault that is told of a product, with the agent at whose place it stands
+abbrev JointTold : ℕ → List PAgent → ShapeFault → Type 0
+JointTold n agents x = (i : ℕ) × (agent : PAgent) × (slice_get agents i ≡ Some agent) × (fault_on agent.name.line (kinds.JointTooLarge (record { 0 = n + i })) ≡ x)
+
+joint_told : (product n : ℕ) (agents : List PAgent) (x : ShapeFault) → joint_from product n agents ≡ Some x → JointTold n agents x
 unfolding joint_from
 joint_told product n [] x h = absurd (none-some x h)
 joint_told product n (agent ∷ agents) x h = go (nat_lt 1024 (product * agent.size)) (joint_told (product * agent.size) (n + 1) agents x) h
   where
-    go : (b : Bool) → (joint_from (product * agent.size) (n + 1) agents ≡ Some x → (line : ℕ) × (a : ℕ) × (fault_on line (kinds.JointTooLarge (record { 0 = a })) ≡ x)) →
-        cond b (Some (fault_on agent.name.line (kinds.JointTooLarge (record { 0 = n })))) (joint_from (product * agent.size) (n + 1) agents) ≡ Some x →
-        (line : ℕ) × (a : ℕ) × (fault_on line (kinds.JointTooLarge (record { 0 = a })) ≡ x)
-    go true more e = (agent.name.line, n, same_Some (fault_on agent.name.line (kinds.JointTooLarge (record { 0 = n }))) x e)
-    go false more e = more e
+    go : (b : Bool) → (joint_from (product * agent.size) (n + 1) agents ≡ Some x → JointTold (n + 1) agents x) →
+        cond b (Some (fault_on agent.name.line (kinds.JointTooLarge (record { 0 = n })))) (joint_from (product * agent.size) (n + 1) agents) ≡ Some x → JointTold n (agent ∷ agents) x
+    go true more e =
+        let here : n ≡ n + 0 = omega arith in
+        (0, agent, refl, subst (λ m. fault_on agent.name.line (kinds.JointTooLarge (record { 0 = m })) ≡ x) here (same_Some (fault_on agent.name.line (kinds.JointTooLarge (record { 0 = n }))) x e))
+    go false more e =
+        let r = more e in
+        let next : n + 1 + r.0 ≡ n + suc r.0 = omega arith in
+        (suc r.0, r.1, r.2, subst (λ m. fault_on r.1.name.line (kinds.JointTooLarge (record { 0 = m })) ≡ x) next r.3)
+
+-- the item that is mapped to the one at a place
+mapped_back : {A B : Type 0} (f : A → B) (xs : List A) (i : ℕ) (y : B) → slice_get (map f xs) i ≡ Some y → (x : A) × (slice_get xs i ≡ Some x) × (f x ≡ y)
+mapped_back f xs i y h = map_some f (slice_get xs i) y (sym (slice_get-map f xs i) ∙ h)
+
+-- the names of all outcomes are those of the outcomes in their order
+names_of_outs : (atoms : List PAtom) → out_names atoms ≡ map (λ (out : POut). out.name) (flat_map (λ (atom : PAtom). atom.outs) atoms)
+unfolding out_names
+names_of_outs [] = refl
+names_of_outs (atom ∷ atoms) =
+    ap (λ (names : List Word). map (λ (out : POut). out.name) atom.outs ++ names) (names_of_outs atoms)
+    ∙ sym (map-append (λ (out : POut). out.name) atom.outs (flat_map (λ (x : PAtom). x.outs) atoms))
 
 module _ (p : Parsed) where
   -- what a fault says
   abbrev Tells : ShapeFault → Type 0
-  Tells fault = IsSo (content_of p) fault.kind
+  Tells fault = IsSo (content_of p) fault.kind × IsOn p fault.kind fault.line
 
   party_tells : (x : ShapeFault) → no_party p.atoms ≡ Some x → Tells x
   party_tells x h =
       let r = numbered_some no_party_at p.atoms x h in
       let two = if_some (length r.item.parties == 0) (fault_on r.item.name.line (kinds.NoParty (record { 0 = r.place }))) x r.gives in
       subst Tells two.1 (
-        atom_content r.item,
-        mapped_at atom_content p.atoms r.place r.item r.at,
-        empty (λ (w : Word). w.text) r.item.parties two.0,
-        subst (All (λ (atom : AtomContent). atom.parties ≢ [])) (sym (take-map atom_content r.place p.atoms)) (some_party (take r.place p.atoms) r.before),
+        (
+          atom_content r.item,
+          mapped_at atom_content p.atoms r.place r.item r.at,
+          empty (λ (w : Word). w.text) r.item.parties two.0,
+          subst (All (λ (atom : AtomContent). atom.parties ≢ [])) (sym (take-map atom_content r.place p.atoms)) (some_party (take r.place p.atoms) r.before),
+        ),
+        (r.item, r.at, refl),
       )
 
   outcome_tells : (x : ShapeFault) → no_outcome p.atoms ≡ Some x → Tells x
@@ -127,10 +150,13 @@ module _ (p : Parsed) where
       let r = numbered_some no_outcome_at p.atoms x h in
       let two = if_some (length r.item.outs == 0) (fault_on r.item.name.line (kinds.NoOutcome (record { 0 = r.place }))) x r.gives in
       subst Tells two.1 (
-        atom_content r.item,
-        mapped_at atom_content p.atoms r.place r.item r.at,
-        empty out_content r.item.outs two.0,
-        subst (All (λ (atom : AtomContent). atom.outs ≢ [])) (sym (take-map atom_content r.place p.atoms)) (some_outcome (take r.place p.atoms) r.before),
+        (
+          atom_content r.item,
+          mapped_at atom_content p.atoms r.place r.item r.at,
+          empty out_content r.item.outs two.0,
+          subst (All (λ (atom : AtomContent). atom.outs ≢ [])) (sym (take-map atom_content r.place p.atoms)) (some_outcome (take r.place p.atoms) r.before),
+        ),
+        (r.item, r.at, refl),
       )
 
   -- sizes
@@ -144,7 +170,7 @@ module _ (p : Parsed) where
       let a : AgentId = record { 0 = r.place } in
       let two = if_some (r.item.size == 0) (fault_on r.item.name.line (kinds.ZeroSize a)) x r.gives in
       subst Tells two.1
-      (size_tells (faults.ZeroSize a) x (or_found (zero_size p.agents) (option_or (size_too_large p.agents) (joint_too_large p.agents)) x h) (ap (λ (f : ShapeFault). f.kind) (sym two.1)))
+      (size_tells (faults.ZeroSize a) x (or_found (zero_size p.agents) (option_or (size_too_large p.agents) (joint_too_large p.agents)) x h) (ap (λ (f : ShapeFault). f.kind) (sym two.1)), (r.item, r.at, refl))
 
   large_tells : (x : ShapeFault) → zero_size p.agents ≡ None → size_too_large p.agents ≡ Some x → Tells x
   large_tells x zeros h =
@@ -154,16 +180,18 @@ module _ (p : Parsed) where
       subst Tells two.1
       (size_tells (faults.SizeTooLarge a) x
       (or_missed (zero_size p.agents) (option_or (size_too_large p.agents) (joint_too_large p.agents)) zeros ∙ or_found (size_too_large p.agents) (joint_too_large p.agents) x h)
-      (ap (λ (f : ShapeFault). f.kind) (sym two.1)))
+      (ap (λ (f : ShapeFault). f.kind) (sym two.1)), (r.item, r.at, refl))
 
   joint_tells : (x : ShapeFault) → zero_size p.agents ≡ None → size_too_large p.agents ≡ None → joint_too_large p.agents ≡ Some x → Tells x
   joint_tells x zeros larges h =
       let r = joint_told 1 0 p.agents x h in
-      let a : AgentId = record { 0 = r.1 } in
-      subst Tells r.2
+      let here : 0 + r.0 ≡ r.0 = omega arith in
+      let a : AgentId = record { 0 = r.0 } in
+      let is : fault_on r.1.name.line (kinds.JointTooLarge a) ≡ x = subst (λ n. fault_on r.1.name.line (kinds.JointTooLarge (record { 0 = n })) ≡ x) here r.3 in
+      subst Tells is
       (size_tells (faults.JointTooLarge a) x
       (or_missed (zero_size p.agents) (option_or (size_too_large p.agents) (joint_too_large p.agents)) zeros ∙ (or_missed (size_too_large p.agents) (joint_too_large p.agents) larges ∙ h))
-      (ap (λ (f : ShapeFault). f.kind) (sym r.2)))
+      (ap (λ (f : ShapeFault). f.kind) (sym is)), (r.1, r.2, refl))
 
   -- outcomes whose cases leave joint data uncovered
   partial_tells : (x : ShapeFault) → not_total p ≡ Some x → Tells x
@@ -171,7 +199,7 @@ module _ (p : Parsed) where
       let r = partial (λ n out. IsAllCovered (content_of p) out) p x (λ m atom at i d l j e. covered_out p j (get_or atom.outs i d) e) h in
       let cases = cases_in (content_of p) (out_content r.out) in
       let two = map_some (λ d. fault_on r.out.name.line (kinds.NotTotal (record { 0 = r.number }) d)) (first_uncovered (sizes_in (content_of p)) cases) x r.gives in
-      subst Tells two.2 (record { item = placed_at r.place (out_content r.out); at = r.there; so = first_is (sizes_in (content_of p)) cases two.0 two.1; before = r.before })
+      subst Tells two.2 (record { item = placed_at r.place (out_content r.out); at = r.there; so = first_is (sizes_in (content_of p)) cases two.0 two.1; before = r.before }, (r.out, r.in_text, refl))
 
   -- an atom's number is its name's place
   number_is : (name : Word) → atom_number p.atoms name ≡ place_of name.text (atom_names (content_of p))
@@ -198,10 +226,10 @@ module _ (p : Parsed) where
         )
 
     first_tells : (x : ShapeFault) → lacks kinds.FirstLacks p.first p ≡ Some x → Tells x
-    first_tells x h = let r = lacks_tells kinds.FirstLacks p.first x declared.first h in subst Tells r.4 (r.1, r.2, r.3)
+    first_tells x h = let r = lacks_tells kinds.FirstLacks p.first x declared.first h in subst Tells r.4 ((r.1, r.2, r.3), refl)
 
     last_tells : (x : ShapeFault) → lacks kinds.LastLacks p.last p ≡ Some x → Tells x
-    last_tells x h = let r = lacks_tells kinds.LastLacks p.last x declared.last h in subst Tells r.4 (r.1, r.2, r.3)
+    last_tells x h = let r = lacks_tells kinds.LastLacks p.last x declared.last h in subst Tells r.4 ((r.1, r.2, r.3), refl)
 
     -- an agent of a name in a case is one of those that the case names
     named_in : (a : ℕ) (agent : PAgent) → slice_get p.agents a ≡ Some agent → (case : PCase) → case_names agent.name case ≡ true → is_named (content_of p) a (case_content case) ≡ true
@@ -237,7 +265,7 @@ module _ (p : Parsed) where
                       (not_both (stands_in r.atom.parties agent.name) (not (list_any (λ (next : PNext). stands_in next.agents agent.name) r.out.nexts)) (s.before b agent there l) (party_stands p once r.place r.atom r.at b agent there miss.1)))),
                 );
                 before = r.before;
-              })
+              }, (r.out, r.in_text, refl))
 
       stranger_tells : (x : ShapeFault) → OutFound (broken_at rules.NextStranger p) (λ n out. All (HasNoStranger (content_of p) n) out.nexts) p.atoms x → Tells x
       stranger_tells x r =
@@ -252,19 +280,20 @@ module _ (p : Parsed) where
           (All-unmap (λ (m : NextContent). IsDeclared (atom_names c) m.atom) next_content r.out.nexts
           (all_slice (λ (placed : PlacedOut). All (λ (m : NextContent). IsDeclared (atom_names c) m.atom) placed.out.nexts) (all_outs c) r.number (placed_at r.place (out_content r.out)) declared.next_atoms r.there))
           next.at in
+          let leads : leads_to c s.number n (next_content next.item) ≡ true =
+          (and_from (place_of name.text (atom_names c) == n) (is_in s.number (places_of (next_content next.item).agents (agent_names c)))
+                  (eq-eqb (place_of name.text (atom_names c)) n (sym (number_is name))) (stand p once s.number s.agent s.at next.item.agents ∙ two.0)) in
           subst Tells s.is (record {
             item = placed_at r.place (out_content r.out);
             at = r.there;
             so = (
-              any_passes (leads_to c s.number n) (map next_content r.out.nexts) next.place (next_content next.item) (mapped_at next_content r.out.nexts next.place next.item next.at)
-                  (and_from (place_of name.text (atom_names c) == n) (is_in s.number (places_of (next_content next.item).agents (agent_names c)))
-                  (eq-eqb (place_of name.text (atom_names c)) n (sym (number_is name))) (stand p once s.number s.agent s.at next.item.agents ∙ two.0)),
+              any_passes (leads_to c s.number n) (map next_content r.out.nexts) next.place (next_content next.item) (mapped_at next_content r.out.nexts next.place next.item next.at) leads,
               λ both. not_so parties two.1 (and_from (stands_in r.atom.parties s.agent.name) (is_party_at p.atoms name s.agent)
                   (party_stands p once r.place r.atom r.at s.number s.agent s.at both.0)
                   (party_named p once name s.number s.agent s.at declared_atom (subst (λ m. IsParty c m s.number) (number_is name) both.1))),
             );
             before = r.before;
-          })
+          }, (r.out, r.in_text, (next.place, (next.item, next.at, (refl, leads)))))
 
       leads_tells : (x : ShapeFault) → OutFound (broken_at rules.LastLeads p) (EndsLast (content_of p)) p.atoms x → Tells x
       leads_tells x r = go (is_last p r.atom) refl r.gives
@@ -272,7 +301,7 @@ module _ (p : Parsed) where
           go : (b : Bool) → is_last p r.atom ≡ b → cond b (option_map (λ (next : PNext). fault_on next.atom.line (kinds.LastLeads (record { 0 = r.number }))) (slice_get r.out.nexts 0)) None ≡ Some x → Tells x
           go true e k =
               let m = map_some (λ (next : PNext). fault_on next.atom.line (kinds.LastLeads (record { 0 = r.number }))) (slice_get r.out.nexts 0) x k in
-              subst Tells m.2 (record { item = placed_at r.place (out_content r.out); at = r.there; so = (last_is p once r.place r.atom r.at e, some_ahead next_content r.out.nexts m.0 m.1); before = r.before })
+              subst Tells m.2 (record { item = placed_at r.place (out_content r.out); at = r.there; so = (last_is p once r.place r.atom r.at e, some_ahead next_content r.out.nexts m.0 m.1); before = r.before }, (r.out, r.in_text, (m.0, m.1, refl)))
           go false e k = absurd (none-some x k)
 
       outside_tells : (x : ShapeFault) → OutFound (broken_at rules.NotParty p) (λ n out. All (NamesParties (content_of p) n) out.cases) p.atoms x → Tells x
@@ -281,16 +310,17 @@ module _ (p : Parsed) where
           let case = among_some (not_party_on p r.atom r.number) r.out.cases x r.gives in
           let s = agent_some (case_line case.item) (kinds.NotParty (record { 0 = r.number })) (is_outside r.atom case.item) p.agents x case.gives in
           let two = and_parts (case_names s.agent.name case.item) (not (stands_in r.atom.parties s.agent.name)) s.passes in
+          let named = named_in s.number s.agent s.at case.item two.0 in
           subst Tells s.is (record {
             item = placed_at r.place (out_content r.out);
             at = r.there;
             so = (
               any_passes (is_named c s.number) (map case_content r.out.cases) case.place (case_content case.item) (mapped_at case_content r.out.cases case.place case.item case.at)
-                  (named_in s.number s.agent s.at case.item two.0),
+                  named,
               λ party. not_so (stands_in r.atom.parties s.agent.name) two.1 (party_stands p once r.place r.atom r.at s.number s.agent s.at party),
             );
             before = r.before;
-          })
+          }, (r.out, r.in_text, (case.place, (case.item, case.at, (refl, named)))))
 
       not_fitting : (term : PTerm) (size : ℕ) → is_too_large size term ≡ true → FitsSize (term_in (content_of p) (term_content term)) size → ⊥
       not_fitting terms.Any size t h = false≢true t
@@ -305,6 +335,17 @@ module _ (p : Parsed) where
           let s = agent_some (case_line case.item) (kinds.ValueTooLarge (record { 0 = r.number })) (is_overfull case.item) p.agents x case.gives in
           let set = any_at (λ (y : PSet). same s.agent.name y.agent && is_too_large s.agent.size y.term) case.item.sets s.passes in
           let two = and_parts (same s.agent.name set.item.agent) (is_too_large s.agent.size set.item.term) set.passes in
+          let over : HasSome (case_in c (case_content case.item)).sets (λ y. (y.agent.0 ≡ s.number) × (¬ FitsSize y.term (slice_index (sizes_in c) s.number))) = (
+            set.place,
+            (
+              set_in c (set_content set.item),
+              mapped_at (set_in c) (map set_content case.item.sets) set.place (set_content set.item) (mapped_at set_content case.item.sets set.place set.item set.at),
+              (
+                agent_place p once s.number s.agent s.at set.item.agent two.0,
+                λ fits. not_fitting set.item.term s.agent.size two.1 (subst (FitsSize (term_in c (term_content set.item.term))) (sym (size_there p once known s.number s.agent s.at)) fits),
+              ),
+            ),
+          ) in
           subst Tells s.is (record {
             item = placed_at r.place (out_content r.out);
             at = r.there;
@@ -313,38 +354,33 @@ module _ (p : Parsed) where
               (
                 case_in c (case_content case.item),
                 mapped_at (case_in c) (map case_content r.out.cases) case.place (case_content case.item) (mapped_at case_content r.out.cases case.place case.item case.at),
-                (
-                  set.place,
-                  (
-                    set_in c (set_content set.item),
-                    mapped_at (set_in c) (map set_content case.item.sets) set.place (set_content set.item) (mapped_at set_content case.item.sets set.place set.item set.at),
-                    (
-                      agent_place p once s.number s.agent s.at set.item.agent two.0,
-                      λ fits. not_fitting set.item.term s.agent.size two.1
-                          (subst (FitsSize (term_in c (term_content set.item.term))) (sym (size_there p once known s.number s.agent s.at)) fits),
-                    ),
-                  ),
-                ),
+                over,
               ),
             );
             before = r.before;
-          })
+          }, (r.out, r.in_text, (case.place, (case.item, case.at, (refl, over)))))
 
   -- what is told is so
   tells : (kind : ShapeKind) → NoneBelow p (rank_of kind) → (x : ShapeFault) → check p (rank_of kind) ≡ Some x → Tells x
   tells kinds.NoAgent none x h = first_line p.agents h
     where
       first_line : (agents : List PAgent) → no_agent agents ≡ Some x → Tells x
-      first_line [] e = subst Tells (same_Some (fault_on 1 kinds.NoAgent) x e) tt
+      first_line [] e = subst Tells (same_Some (fault_on 1 kinds.NoAgent) x e) (tt, refl)
       first_line (agent ∷ agents) e = absurd (none-some x e)
   tells (kinds.TooMany many.Agents) none x h =
-      let r = map_some (λ (word : Word). fault_on word.line (kinds.TooMany many.Agents)) (slice_get (map (λ (agent : PAgent). agent.name) p.agents) 16) x h in subst Tells r.2 tt
+      let r = map_some (λ (word : Word). fault_on word.line (kinds.TooMany many.Agents)) (slice_get (map (λ (agent : PAgent). agent.name) p.agents) 16) x h in
+      let there = mapped_back (λ (agent : PAgent). agent.name) p.agents 16 r.0 r.1 in
+      subst Tells r.2 (tt, (there.0, there.1, ap (λ (w : Word). w.line) (sym there.2)))
   tells (kinds.TooMany many.Atoms) none x h =
-      let r = map_some (λ (word : Word). fault_on word.line (kinds.TooMany many.Atoms)) (slice_get (map (λ (atom : PAtom). atom.name) p.atoms) 64) x h in subst Tells r.2 tt
+      let r = map_some (λ (word : Word). fault_on word.line (kinds.TooMany many.Atoms)) (slice_get (map (λ (atom : PAtom). atom.name) p.atoms) 64) x h in
+      let there = mapped_back (λ (atom : PAtom). atom.name) p.atoms 64 r.0 r.1 in
+      subst Tells r.2 (tt, (there.0, there.1, ap (λ (w : Word). w.line) (sym there.2)))
   tells (kinds.TooMany many.Outcomes) none x h =
-      let r = map_some (λ (word : Word). fault_on word.line (kinds.TooMany many.Outcomes)) (slice_get (out_names p.atoms) 256) x h in subst Tells r.2 tt
-  tells (kinds.Twice name) none x h = let r = map_some (λ (word : Word). fault_on word.line (kinds.Twice word.text)) (twice_in p) x h in subst Tells r.2 tt
-  tells (kinds.Unknown name) none x h = let r = map_some (λ (word : Word). fault_on word.line (kinds.Unknown word.text)) (unknown_in p) x h in subst Tells r.2 (told_unknown p r.0 r.1)
+      let r = map_some (λ (word : Word). fault_on word.line (kinds.TooMany many.Outcomes)) (slice_get (out_names p.atoms) 256) x h in
+      let there = mapped_back (λ (out : POut). out.name) (flat_map (λ (atom : PAtom). atom.outs) p.atoms) 256 r.0 (ap (λ (names : List Word). slice_get names 256) (sym (names_of_outs p.atoms)) ∙ r.1) in
+      subst Tells r.2 (tt, (there.0, there.1, ap (λ (w : Word). w.line) (sym there.2)))
+  tells (kinds.Twice name) none x h = let r = map_some (λ (word : Word). fault_on word.line (kinds.Twice word.text)) (twice_in p) x h in subst Tells r.2 (tt, tt)
+  tells (kinds.Unknown name) none x h = let r = map_some (λ (word : Word). fault_on word.line (kinds.Unknown word.text)) (unknown_in p) x h in subst Tells r.2 (told_unknown p r.0 r.1, tt)
   tells (kinds.NoParty n) none x h = party_tells x h
   tells (kinds.NoOutcome n) none x h = outcome_tells x h
   tells (kinds.FirstLacks a) none x h = first_tells (once_below p 8 (lit< tt) none) (declared_below p 8 (lit< tt) none) x h
@@ -377,5 +413,11 @@ module _ (p : Parsed) where
       (breach rules.ValueTooLarge (λ n out. All (AssignsBelow (sizes_in (content_of p))) (cases_in (content_of p) out)) p x (λ m atom at i d l j e. below_kept p once known m atom at i d l (record { number = j; kept = e })) h)
   tells (kinds.NotTotal o d) none x h = partial_tells x h
 
+  told_all : (fault : ShapeFault) → shape_fault p ≡ Some fault → Tells fault
+  told_all fault h = let first = (all_made p).some fault h in tells fault.kind (λ n l. first.before n (omega arith) l) fault first.here
+
   pub told_is_so : (fault : ShapeFault) → shape_fault p ≡ Some fault → IsSo (content_of p) fault.kind
-  told_is_so fault h = let first = (all_made p).some fault h in tells fault.kind (λ n l. first.before n (omega arith) l) fault first.here
+  told_is_so fault h = (told_all fault h).0
+
+  pub told_is_on : (fault : ShapeFault) → shape_fault p ≡ Some fault → IsOn p fault.kind fault.line
+  told_is_on fault h = (told_all fault h).1

@@ -5,10 +5,14 @@ use Rattle.nego_base.specs.Members.{is_in}
 use Rattle.nego_data.specs.declared.joint_data.SizeFault.TheVariants as faults
 use Rattle.nego_data.specs.Sizes.{HasFault}
 use Rattle.nego_data.specs.CaseForm.{AssignsBelow, FitsSize, IsFirstUncovered}
-use Rattle.nego_reader.specs.Content.{Content, OutContent, CaseContent}
+use Rattle.nego_reader.specs.declared.parsed.Parsed.{Parsed}
+use Rattle.nego_reader.specs.declared.parsed.POut.{POut}
+use Rattle.nego_reader.specs.Content.{Content, OutContent, CaseContent, content_of, next_content, case_content}
+use Rattle.nego_shape.specs.declared.fault.Many.TheVariants as many
 use Rattle.nego_shape.specs.declared.fault.ShapeKind.{ShapeKind}
 use Rattle.nego_shape.specs.declared.fault.ShapeKind.TheVariants as kinds
-use Rattle.nego_shape.specs.Naming.{PlacedOut, places_of, agent_names, atom_names, sizes_in, all_outs, cases_in, leads_to}
+use Rattle.nego_shape.specs.Faults.{case_line}
+use Rattle.nego_shape.specs.Naming.{case_in, PlacedOut, places_of, agent_names, atom_names, sizes_in, all_outs, cases_in, leads_to}
 use Rattle.nego_shape.specs.Shaped.{IsDeclared, IsParty, IsSent, SendsAll, HasNoStranger, EndsLast, NamesParties, IsAllCovered, first_number, last_number, case_names}
 
 -- the list has an item at this place, of which this holds
@@ -88,3 +92,32 @@ IsSo c (kinds.JointTooLarge a) = HasFault (sizes_in c) (faults.JointTooLarge a)
 IsSo c (kinds.ValueTooLarge o a) =
     HasFirst (all_outs c) o.0 (λ placed. HasSome (cases_in c placed.out) (λ case. HasSome case.sets (λ set. (set.agent.0 ≡ a.0) × (¬ FitsSize set.term (slice_index (sizes_in c) a.0))))) (λ placed. All (AssignsBelow (sizes_in c)) (cases_in c placed.out))
 IsSo c (kinds.NotTotal o d) = HasFirst (all_outs c) o.0 (λ placed. IsFirstUncovered (sizes_in c) (cases_in c placed.out) d) (λ placed. IsAllCovered c placed.out)
+
+-- the outcomes of the text in their order
+abbrev pub outs_of : Parsed → List POut
+outs_of p = flat_map (λ atom. atom.outs) p.atoms
+
+-- On which line a fault of this kind stands: on line 1, where there is no agent; on that of the first agent, atom or outcome
+-- too many, of the atom, of the agent, or of the outcome; on the line that names the first or the last atom; on a next line
+-- of the outcome on which the agent stands; on the outcome's first next line; and on that of a case of the outcome that
+-- names the agent, or that assigns the agent a number which isn't below the size.
+abbrev pub IsOn : Parsed → ShapeKind → ℕ → Type 0
+IsOn p kinds.NoAgent line = line ≡ 1
+IsOn p (kinds.TooMany many.Agents) line = HasAt p.agents 16 (λ agent. line ≡ agent.name.line)
+IsOn p (kinds.TooMany many.Atoms) line = HasAt p.atoms 64 (λ atom. line ≡ atom.name.line)
+IsOn p (kinds.TooMany many.Outcomes) line = HasAt (outs_of p) 256 (λ out. line ≡ out.name.line)
+IsOn p (kinds.Twice name) line = ⊤
+IsOn p (kinds.Unknown name) line = ⊤
+IsOn p (kinds.NoParty n) line = HasAt p.atoms n.0 (λ atom. line ≡ atom.name.line)
+IsOn p (kinds.NoOutcome n) line = HasAt p.atoms n.0 (λ atom. line ≡ atom.name.line)
+IsOn p (kinds.FirstLacks a) line = line ≡ p.first.line
+IsOn p (kinds.LastLacks a) line = line ≡ p.last.line
+IsOn p (kinds.NextMissing o a) line = HasAt (outs_of p) o.0 (λ out. line ≡ out.name.line)
+IsOn p (kinds.NextStranger o a n) line = HasAt (outs_of p) o.0 (λ out. HasSome out.nexts (λ next. (line ≡ next.atom.line) × IsTrue (leads_to (content_of p) a.0 n.0 (next_content next))))
+IsOn p (kinds.LastLeads o) line = HasAt (outs_of p) o.0 (λ out. HasAt out.nexts 0 (λ next. line ≡ next.atom.line))
+IsOn p (kinds.NotParty o a) line = HasAt (outs_of p) o.0 (λ out. HasSome out.cases (λ case. (line ≡ case_line case) × IsTrue (is_named (content_of p) a.0 (case_content case))))
+IsOn p (kinds.ZeroSize a) line = HasAt p.agents a.0 (λ agent. line ≡ agent.name.line)
+IsOn p (kinds.SizeTooLarge a) line = HasAt p.agents a.0 (λ agent. line ≡ agent.name.line)
+IsOn p (kinds.JointTooLarge a) line = HasAt p.agents a.0 (λ agent. line ≡ agent.name.line)
+IsOn p (kinds.ValueTooLarge o a) line = HasAt (outs_of p) o.0 (λ out. HasSome out.cases (λ case. (line ≡ case_line case) × HasSome (case_in (content_of p) (case_content case)).sets (λ set. (set.agent.0 ≡ a.0) × (¬ FitsSize set.term (slice_index (sizes_in (content_of p)) a.0)))))
+IsOn p (kinds.NotTotal o d) line = HasAt (outs_of p) o.0 (λ out. line ≡ out.name.line)

@@ -7,7 +7,7 @@ ghost use Rattle.nego_shape.specs.declared.fault.ShapeFault.{ShapeFault};
 ghost use Rattle.nego_shape.specs.Conditions.{HasShape, condition_of, IsFirstBroken};
 ghost use Rattle.nego_shape.specs.Faults.{shape_fault};
 ghost use Rattle.nego_shape.specs.Laws.{OneOrderIsTold, OneCycleIsFound, SizeFaultsAreThoseOfSizes};
-ghost use Rattle.nego_shape.specs.Told.{IsSo};
+ghost use Rattle.nego_shape.specs.Told.{IsSo, IsOn};
 
 /// A negotiation has at most one order that can be told.
 pub fn one_order_is_told()
@@ -30,9 +30,10 @@ pub fn size_faults_are_those_of_sizes()
     ensures { SizeFaultsAreThoseOfSizes }
 {}
 
-/// A told fault of shape is of the first kind, in the order of the kinds, whose condition the text's content breaks; and
-/// what its numbers say of the content is so.
+/// A told fault of shape breaks the first condition, in their order, that the text's content breaks; what its numbers say
+/// of the content is so; and it stands on that line.
 pub fn told_faults_are_the_first_broken()
     ensures first { (p : Parsed) (fault : ShapeFault) → shape_fault p ≡ Some fault → IsFirstBroken (content_of p) (condition_of fault.kind) }
     ensures so { (p : Parsed) (fault : ShapeFault) → shape_fault p ≡ Some fault → IsSo (content_of p) fault.kind }
+    ensures on { (p : Parsed) (fault : ShapeFault) → shape_fault p ≡ Some fault → IsOn p fault.kind fault.line }
 {}
