@@ -41,5 +41,6 @@ pub mod Tellings
 pub mod Ranks
 pub mod KindRanks
 pub mod FirstBroken
+pub mod ToldTwice
 pub mod ToldUnknown
 pub mod ToldFaults

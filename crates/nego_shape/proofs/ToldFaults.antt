@@ -55,6 +55,7 @@ use Rattle.nego_shape.proofs.FaultlessSearches.{any_passes}
 use Rattle.nego_shape.proofs.FaultlessPlaces.{agent_place, party_named, sent_named}
 use Rattle.nego_shape.proofs.FaultlessCases.{case_has}
 use Rattle.nego_shape.proofs.FaultlessSizes.{size_faults}
+use Rattle.nego_shape.proofs.ToldTwice.{told_twice}
 use Rattle.nego_shape.proofs.ToldUnknown.{told_unknown}
 use Rattle.nego_shape.proofs.Tellings.{not_so, map_some, if_some, numbered_some, among_some, agent_some, OutFound}
 use Rattle.nego_shape.proofs.KindRanks.{check, breach, partial, all_made}
@@ -177,10 +178,12 @@ module _ (p : Parsed) where
       let r = numbered_some size_too_large_at p.agents x h in
       let a : AgentId = record { 0 = r.place } in
       let two = if_some (nat_lt 64 r.item.size) (fault_on r.item.name.line (kinds.SizeTooLarge a)) x r.gives in
-      subst Tells two.1
-      (size_tells (faults.SizeTooLarge a) x
-      (or_missed (zero_size p.agents) (option_or (size_too_large p.agents) (joint_too_large p.agents)) zeros ∙ or_found (size_too_large p.agents) (joint_too_large p.agents) x h)
-      (ap (λ (f : ShapeFault). f.kind) (sym two.1)), (r.item, r.at, refl))
+      subst Tells two.1 (
+        size_tells (faults.SizeTooLarge a) x
+            (or_missed (zero_size p.agents) (option_or (size_too_large p.agents) (joint_too_large p.agents)) zeros ∙ or_found (size_too_large p.agents) (joint_too_large p.agents) x h)
+            (ap (λ (f : ShapeFault). f.kind) (sym two.1)),
+        (r.item, r.at, refl),
+      )
 
   joint_tells : (x : ShapeFault) → zero_size p.agents ≡ None → size_too_large p.agents ≡ None → joint_too_large p.agents ≡ Some x → Tells x
   joint_tells x zeros larges h =
@@ -188,10 +191,12 @@ module _ (p : Parsed) where
       let here : 0 + r.0 ≡ r.0 = omega arith in
       let a : AgentId = record { 0 = r.0 } in
       let is : fault_on r.1.name.line (kinds.JointTooLarge a) ≡ x = subst (λ n. fault_on r.1.name.line (kinds.JointTooLarge (record { 0 = n })) ≡ x) here r.3 in
-      subst Tells is
-      (size_tells (faults.JointTooLarge a) x
-      (or_missed (zero_size p.agents) (option_or (size_too_large p.agents) (joint_too_large p.agents)) zeros ∙ (or_missed (size_too_large p.agents) (joint_too_large p.agents) larges ∙ h))
-      (ap (λ (f : ShapeFault). f.kind) (sym is)), (r.1, r.2, refl))
+      subst Tells is (
+        size_tells (faults.JointTooLarge a) x
+            (or_missed (zero_size p.agents) (option_or (size_too_large p.agents) (joint_too_large p.agents)) zeros ∙ (or_missed (size_too_large p.agents) (joint_too_large p.agents) larges ∙ h))
+            (ap (λ (f : ShapeFault). f.kind) (sym is)),
+        (r.1, r.2, refl),
+      )
 
   -- outcomes whose cases leave joint data uncovered
   partial_tells : (x : ShapeFault) → not_total p ≡ Some x → Tells x
@@ -253,19 +258,22 @@ module _ (p : Parsed) where
               let sent = list_any (λ (next : PNext). stands_in next.agents s.agent.name) r.out.nexts in
               let two = and_parts (stands_in r.atom.parties s.agent.name) (not sent) s.passes in
               let other : r.place ≢ last_number (content_of p) = λ i. false≢true (sym e ∙ is_last_at p once r.place r.atom r.at declared.last i) in
-              subst Tells s.is (record {
-                item = placed_at r.place (out_content r.out);
-                at = r.there;
-                so = (
-                  (other, party_from p once r.place r.atom r.at s.number s.agent s.at two.0, λ h. not_so sent two.1 (sent_named p once s.number s.agent s.at r.out.nexts h)),
-                  λ b l miss.
-                      let there = slice_get-get_or p.agents b s.agent (let inside = some_below p.agents s.number s.agent s.at in omega (arith, l, inside)) in
-                      let agent = get_or p.agents b s.agent in
-                      miss.2 (sent_from p once known b agent there r.out.nexts (not_not (list_any (λ (next : PNext). stands_in next.agents agent.name) r.out.nexts)
-                      (not_both (stands_in r.atom.parties agent.name) (not (list_any (λ (next : PNext). stands_in next.agents agent.name) r.out.nexts)) (s.before b agent there l) (party_stands p once r.place r.atom r.at b agent there miss.1)))),
-                );
-                before = r.before;
-              }, (r.out, r.in_text, refl))
+              subst Tells s.is (
+                record {
+                  item = placed_at r.place (out_content r.out);
+                  at = r.there;
+                  so = (
+                    (other, party_from p once r.place r.atom r.at s.number s.agent s.at two.0, λ h. not_so sent two.1 (sent_named p once s.number s.agent s.at r.out.nexts h)),
+                    λ b l miss.
+                        let there = slice_get-get_or p.agents b s.agent (let inside = some_below p.agents s.number s.agent s.at in omega (arith, l, inside)) in
+                        let agent = get_or p.agents b s.agent in
+                        miss.2 (sent_from p once known b agent there r.out.nexts (not_not (list_any (λ (next : PNext). stands_in next.agents agent.name) r.out.nexts)
+                        (not_both (stands_in r.atom.parties agent.name) (not (list_any (λ (next : PNext). stands_in next.agents agent.name) r.out.nexts)) (s.before b agent there l) (party_stands p once r.place r.atom r.at b agent there miss.1)))),
+                  );
+                  before = r.before;
+                },
+                (r.out, r.in_text, refl),
+              )
 
       stranger_tells : (x : ShapeFault) → OutFound (broken_at rules.NextStranger p) (λ n out. All (HasNoStranger (content_of p) n) out.nexts) p.atoms x → Tells x
       stranger_tells x r =
@@ -282,18 +290,21 @@ module _ (p : Parsed) where
           next.at in
           let leads : leads_to c s.number n (next_content next.item) ≡ true =
           (and_from (place_of name.text (atom_names c) == n) (is_in s.number (places_of (next_content next.item).agents (agent_names c)))
-                  (eq-eqb (place_of name.text (atom_names c)) n (sym (number_is name))) (stand p once s.number s.agent s.at next.item.agents ∙ two.0)) in
-          subst Tells s.is (record {
-            item = placed_at r.place (out_content r.out);
-            at = r.there;
-            so = (
-              any_passes (leads_to c s.number n) (map next_content r.out.nexts) next.place (next_content next.item) (mapped_at next_content r.out.nexts next.place next.item next.at) leads,
-              λ both. not_so parties two.1 (and_from (stands_in r.atom.parties s.agent.name) (is_party_at p.atoms name s.agent)
-                  (party_stands p once r.place r.atom r.at s.number s.agent s.at both.0)
-                  (party_named p once name s.number s.agent s.at declared_atom (subst (λ m. IsParty c m s.number) (number_is name) both.1))),
-            );
-            before = r.before;
-          }, (r.out, r.in_text, (next.place, (next.item, next.at, (refl, leads)))))
+          (eq-eqb (place_of name.text (atom_names c)) n (sym (number_is name))) (stand p once s.number s.agent s.at next.item.agents ∙ two.0)) in
+          subst Tells s.is (
+            record {
+              item = placed_at r.place (out_content r.out);
+              at = r.there;
+              so = (
+                any_passes (leads_to c s.number n) (map next_content r.out.nexts) next.place (next_content next.item) (mapped_at next_content r.out.nexts next.place next.item next.at) leads,
+                λ both. not_so parties two.1 (and_from (stands_in r.atom.parties s.agent.name) (is_party_at p.atoms name s.agent)
+                    (party_stands p once r.place r.atom r.at s.number s.agent s.at both.0)
+                    (party_named p once name s.number s.agent s.at declared_atom (subst (λ m. IsParty c m s.number) (number_is name) both.1))),
+              );
+              before = r.before;
+            },
+            (r.out, r.in_text, (next.place, (next.item, next.at, (refl, leads)))),
+          )
 
       leads_tells : (x : ShapeFault) → OutFound (broken_at rules.LastLeads p) (EndsLast (content_of p)) p.atoms x → Tells x
       leads_tells x r = go (is_last p r.atom) refl r.gives
@@ -311,16 +322,19 @@ module _ (p : Parsed) where
           let s = agent_some (case_line case.item) (kinds.NotParty (record { 0 = r.number })) (is_outside r.atom case.item) p.agents x case.gives in
           let two = and_parts (case_names s.agent.name case.item) (not (stands_in r.atom.parties s.agent.name)) s.passes in
           let named = named_in s.number s.agent s.at case.item two.0 in
-          subst Tells s.is (record {
-            item = placed_at r.place (out_content r.out);
-            at = r.there;
-            so = (
-              any_passes (is_named c s.number) (map case_content r.out.cases) case.place (case_content case.item) (mapped_at case_content r.out.cases case.place case.item case.at)
-                  named,
-              λ party. not_so (stands_in r.atom.parties s.agent.name) two.1 (party_stands p once r.place r.atom r.at s.number s.agent s.at party),
-            );
-            before = r.before;
-          }, (r.out, r.in_text, (case.place, (case.item, case.at, (refl, named)))))
+          subst Tells s.is (
+            record {
+              item = placed_at r.place (out_content r.out);
+              at = r.there;
+              so = (
+                any_passes (is_named c s.number) (map case_content r.out.cases) case.place (case_content case.item) (mapped_at case_content r.out.cases case.place case.item case.at)
+                    named,
+                λ party. not_so (stands_in r.atom.parties s.agent.name) two.1 (party_stands p once r.place r.atom r.at s.number s.agent s.at party),
+              );
+              before = r.before;
+            },
+            (r.out, r.in_text, (case.place, (case.item, case.at, (refl, named)))),
+          )
 
       not_fitting : (term : PTerm) (size : ℕ) → is_too_large size term ≡ true → FitsSize (term_in (content_of p) (term_content term)) size → ⊥
       not_fitting terms.Any size t h = false≢true t
@@ -346,19 +360,22 @@ module _ (p : Parsed) where
               ),
             ),
           ) in
-          subst Tells s.is (record {
-            item = placed_at r.place (out_content r.out);
-            at = r.there;
-            so = (
-              case.place,
-              (
-                case_in c (case_content case.item),
-                mapped_at (case_in c) (map case_content r.out.cases) case.place (case_content case.item) (mapped_at case_content r.out.cases case.place case.item case.at),
-                over,
-              ),
-            );
-            before = r.before;
-          }, (r.out, r.in_text, (case.place, (case.item, case.at, (refl, over)))))
+          subst Tells s.is (
+            record {
+              item = placed_at r.place (out_content r.out);
+              at = r.there;
+              so = (
+                case.place,
+                (
+                  case_in c (case_content case.item),
+                  mapped_at (case_in c) (map case_content r.out.cases) case.place (case_content case.item) (mapped_at case_content r.out.cases case.place case.item case.at),
+                  over,
+                ),
+              );
+              before = r.before;
+            },
+            (r.out, r.in_text, (case.place, (case.item, case.at, (refl, over)))),
+          )
 
   -- what is told is so
   tells : (kind : ShapeKind) → NoneBelow p (rank_of kind) → (x : ShapeFault) → check p (rank_of kind) ≡ Some x → Tells x
@@ -379,8 +396,8 @@ module _ (p : Parsed) where
       let r = map_some (λ (word : Word). fault_on word.line (kinds.TooMany many.Outcomes)) (slice_get (out_names p.atoms) 256) x h in
       let there = mapped_back (λ (out : POut). out.name) (flat_map (λ (atom : PAtom). atom.outs) p.atoms) 256 r.0 (ap (λ (names : List Word). slice_get names 256) (sym (names_of_outs p.atoms)) ∙ r.1) in
       subst Tells r.2 (tt, (there.0, there.1, ap (λ (w : Word). w.line) (sym there.2)))
-  tells (kinds.Twice name) none x h = let r = map_some (λ (word : Word). fault_on word.line (kinds.Twice word.text)) (twice_in p) x h in subst Tells r.2 (tt, tt)
-  tells (kinds.Unknown name) none x h = let r = map_some (λ (word : Word). fault_on word.line (kinds.Unknown word.text)) (unknown_in p) x h in subst Tells r.2 (told_unknown p r.0 r.1, tt)
+  tells (kinds.Twice name) none x h = let r = map_some (λ (word : Word). fault_on word.line (kinds.Twice word.text)) (twice_in p) x h in subst Tells r.2 (tt, (r.0, refl, refl, told_twice p r.0 r.1))
+  tells (kinds.Unknown name) none x h = let r = map_some (λ (word : Word). fault_on word.line (kinds.Unknown word.text)) (unknown_in p) x h in subst Tells r.2 (tt, (r.0, refl, refl, told_unknown p r.0 r.1))
   tells (kinds.NoParty n) none x h = party_tells x h
   tells (kinds.NoOutcome n) none x h = outcome_tells x h
   tells (kinds.FirstLacks a) none x h = first_tells (once_below p 8 (lit< tt) none) (declared_below p 8 (lit< tt) none) x h
