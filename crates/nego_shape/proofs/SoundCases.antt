@@ -101,18 +101,22 @@ module _ (p : Parsed) (once : AreNamedOnce (content_of p)) (known : unknown_in p
       All-unmap (λ (c : CaseContent). All Declared (shaped.case_names c)) case_content out.cases
       ((all_slice (λ (x : PAtom). All Declared (texts x.parties) × All (IsOutDeclared p) x.outs) p.atoms n atom (outs_declared p known) at).1 i o l).cases
 
+  -- a case of which nothing is told names parties alone
+  pub parties_at : (n : ℕ) (atom : PAtom) → slice_get p.atoms n ≡ Some atom → (case : PCase) → All Declared (shaped.case_names (case_content case)) → (number : ℕ) → not_party_on p atom number case ≡ None →
+      shaped.NamesParties (content_of p) n (case_content case)
+  parties_at n atom at case names number kept j name q =
+      let word = get_or (shaped.case_names (case_content case)) j name in
+      let there = agent_of p once word (names j name q) in
+      let none = all_slice (λ (x : PAgent). is_outside atom case x ≡ false) p.agents (place_of word (agent_names (content_of p))) there.agent
+      (no_agent_so (case_line case) (kinds.NotParty (record { 0 = number })) (is_outside atom case) p.agents kept) there.at in
+      party_from p once n atom at (place_of word (agent_names (content_of p))) there.agent there.at
+      (not_not (stands_in atom.parties there.agent.name) (not_both (case_names there.agent.name case) (not (stands_in atom.parties there.agent.name)) none (case_named case j name q there.agent.name there.is)))
+
   pub parties_kept : (n : ℕ) (atom : PAtom) → slice_get p.atoms n ≡ Some atom → (i : ℕ) (o : POut) → i < length atom.outs → Keeps rules.NotParty p atom (get_or atom.outs i o) →
       All (shaped.NamesParties (content_of p) n) (out_content (get_or atom.outs i o)).cases
   parties_kept n atom at i o l keeps =
       let out = get_or atom.outs i o in
-      All-map (λ case. All (IsNamedParty (content_of p) n) (shaped.case_names case)) case_content out.cases (λ k d m j name q.
-      let case = get_or out.cases k d in
-      let word = get_or (shaped.case_names (case_content case)) j name in
-      let there = agent_of p once word (cases_declared n atom at i o l k d m j name q) in
-      let none = all_slice (λ (x : PAgent). is_outside atom case x ≡ false) p.agents (place_of word (agent_names (content_of p))) there.agent
-      (no_agent_so (case_line case) (kinds.NotParty (record { 0 = keeps.number })) (is_outside atom case) p.agents (among_none (not_party_on p atom keeps.number) out.cases keeps.kept k d m)) there.at in
-      party_from p once n atom at (place_of word (agent_names (content_of p))) there.agent there.at
-      (not_not (stands_in atom.parties there.agent.name) (not_both (case_names there.agent.name case) (not (stands_in atom.parties there.agent.name)) none (case_named case j name q there.agent.name there.is))))
+      All-map (shaped.NamesParties (content_of p) n) case_content out.cases (λ k d m. parties_at n atom at (get_or out.cases k d) (cases_declared n atom at i o l k d m) keeps.number (among_none (not_party_on p atom keeps.number) out.cases keeps.kept k d m))
 
   pub parties_alone : broken rules.NotParty p ≡ None → Holds PartiesAlone (content_of p)
   parties_alone h = by_placed p once (λ n out. All (shaped.NamesParties (content_of p) n) out.cases) (λ n atom at i d l. parties_kept n atom at i d l (kept_by rules.NotParty p 0 p.atoms h n atom at i d l))
@@ -138,22 +142,26 @@ module _ (p : Parsed) (once : AreNamedOnce (content_of p)) (known : unknown_in p
       (All-unmap (λ (s : SetContent). All Declared (shaped.set_names s)) set_content c.sets
       (All-each Declared shaped.set_names (map set_content c.sets) (All-back Declared (flat_map shaped.test_names (map test_content c.tests)) (flat_map shaped.set_names (map set_content c.sets)) all)) j set l)
 
+  -- a case of which nothing is told assigns numbers below the sizes
+  pub below_at : (case : PCase) → All Declared (shaped.case_names (case_content case)) → (number : ℕ) → value_too_large_on p number case ≡ None → AssignsBelow (sizes_in (content_of p)) (case_in (content_of p) (case_content case))
+  below_at case names number kept =
+      All-map (λ (set : Set). FitsSize set.term (slice_index (sizes_in (content_of p)) set.agent.0)) (set_in (content_of p)) (map set_content case.sets)
+      (All-map (λ (s : SetContent). FitsSize (term_in (content_of p) s.term) (slice_index (sizes_in (content_of p)) (place_of s.agent (agent_names (content_of p))))) set_content case.sets (λ j s q.
+      let set = get_or case.sets j s in
+      let there = agent_of p once set.agent.text (set_declared case names j s q) in
+      let a = place_of set.agent.text (agent_names (content_of p)) in
+      let none = all_slice (λ (x : PAgent). is_overfull case x ≡ false) p.agents a there.agent
+      (no_agent_so (case_line case) (kinds.ValueTooLarge (record { 0 = number })) (is_overfull case) p.agents kept) there.at in
+      let fit = not_both (same there.agent.name set.agent) (is_too_large there.agent.size set.term)
+      (any_none (λ (x : PSet). same there.agent.name x.agent && is_too_large there.agent.size x.term) case.sets none j s q) (same_word there.agent.name set.agent there.is) in
+      subst (FitsSize (term_in (content_of p) (term_content set.term))) (size_there a there.agent there.at) (fits set.term there.agent.size fit)))
+
   pub below_kept : (n : ℕ) (atom : PAtom) → slice_get p.atoms n ≡ Some atom → (i : ℕ) (o : POut) → i < length atom.outs → Keeps rules.ValueTooLarge p atom (get_or atom.outs i o) →
       All (AssignsBelow (sizes_in (content_of p))) (cases_in (content_of p) (out_content (get_or atom.outs i o)))
   below_kept n atom at i o l keeps =
       let out = get_or atom.outs i o in
-      All-map (AssignsBelow (sizes_in (content_of p))) (case_in (content_of p)) (map case_content out.cases) (All-map (λ (c : CaseContent). AssignsBelow (sizes_in (content_of p)) (case_in (content_of p) c)) case_content out.cases (λ k d m.
-      let case = get_or out.cases k d in
-      All-map (λ (set : Set). FitsSize set.term (slice_index (sizes_in (content_of p)) set.agent.0)) (set_in (content_of p)) (map set_content case.sets)
-      (All-map (λ (s : SetContent). FitsSize (term_in (content_of p) s.term) (slice_index (sizes_in (content_of p)) (place_of s.agent (agent_names (content_of p))))) set_content case.sets (λ j s q.
-      let set = get_or case.sets j s in
-      let there = agent_of p once set.agent.text (set_declared case (cases_declared n atom at i o l k d m) j s q) in
-      let a = place_of set.agent.text (agent_names (content_of p)) in
-      let none = all_slice (λ (x : PAgent). is_overfull case x ≡ false) p.agents a there.agent
-      (no_agent_so (case_line case) (kinds.ValueTooLarge (record { 0 = keeps.number })) (is_overfull case) p.agents (among_none (value_too_large_on p keeps.number) out.cases keeps.kept k d m)) there.at in
-      let fit = not_both (same there.agent.name set.agent) (is_too_large there.agent.size set.term)
-      (any_none (λ (x : PSet). same there.agent.name x.agent && is_too_large there.agent.size x.term) case.sets none j s q) (same_word there.agent.name set.agent there.is) in
-      subst (FitsSize (term_in (content_of p) (term_content set.term))) (size_there a there.agent there.at) (fits set.term there.agent.size fit)))))
+      All-map (AssignsBelow (sizes_in (content_of p))) (case_in (content_of p)) (map case_content out.cases) (All-map (λ (c : CaseContent). AssignsBelow (sizes_in (content_of p)) (case_in (content_of p) c)) case_content out.cases
+      (λ k d m. below_at (get_or out.cases k d) (cases_declared n atom at i o l k d m) keeps.number (among_none (value_too_large_on p keeps.number) out.cases keeps.kept k d m)))
 
   pub below : broken rules.ValueTooLarge p ≡ None → Holds NoLargeValue (content_of p)
   below h = by_placed p once (λ n out. All (AssignsBelow (sizes_in (content_of p))) (cases_in (content_of p) out)) (λ n atom at i d l. below_kept n atom at i d l (kept_by rules.ValueTooLarge p 0 p.atoms h n atom at i d l))

@@ -98,29 +98,30 @@ module _ (p : Parsed) (once : AreNamedOnce (content_of p)) (known : unknown_in p
   word_stands : (words : List Word) (j : ℕ) (w name : Word) → j < length words → name.text ≡ (get_or words j w).text → stands_in words name ≡ true
   word_stands words j w name l e = list_any_at (same name) words j w l ((bytes_eq-Decides (get_or words j w).text name.text).1 (sym e))
 
+  -- a next line of which nothing is told has no stranger
+  pub strangers_at : (n : ℕ) (atom : PAtom) → slice_get p.atoms n ≡ Some atom → (next : PNext) → All (λ name. IsDeclared (agent_names (content_of p)) name) (texts next.agents) → (number : ℕ) → next_stranger_on p atom number next ≡ None →
+      HasNoStranger (content_of p) n (next_content next)
+  strangers_at n atom at next names number kept =
+      All-map (λ name. IsNamedParty (content_of p) n name × IsNamedParty (content_of p) (place_of next.atom.text (atom_names (content_of p))) name) (λ (w : Word). w.text) next.agents (λ j w q.
+      let word = get_or next.agents j w in
+      let there = agent_of p once word.text (All-unmap (λ name. IsDeclared (agent_names (content_of p)) name) (λ (x : Word). x.text) next.agents names j w q) in
+      let a = place_of word.text (agent_names (content_of p)) in
+      let none = all_slice (λ (x : PAgent). is_stranger p atom next x ≡ false) p.agents a there.agent
+      (no_agent_so next.atom.line (λ b. kinds.NextStranger (record { 0 = number }) b (record { 0 = atom_number p.atoms next.atom })) (is_stranger p atom next) p.agents kept) there.at in
+      let both = and_parts (stands_in atom.parties there.agent.name) (is_party_at p.atoms next.atom there.agent)
+      (not_not (stands_in atom.parties there.agent.name && is_party_at p.atoms next.atom there.agent)
+      (not_both (stands_in next.agents there.agent.name) (not (stands_in atom.parties there.agent.name && is_party_at p.atoms next.atom there.agent)) none
+      (word_stands next.agents j w there.agent.name q there.is))) in
+      (party_from p once n atom at a there.agent there.at both.0, party_at p once next.atom a there.agent there.at both.1))
+
   pub strangers_kept : (n : ℕ) (atom : PAtom) → slice_get p.atoms n ≡ Some atom → (i : ℕ) (o : POut) → i < length atom.outs → Keeps rules.NextStranger p atom (get_or atom.outs i o) →
       All (HasNoStranger (content_of p) n) (out_content (get_or atom.outs i o)).nexts
   strangers_kept n atom at i o l keeps =
       let out = get_or atom.outs i o in
       let names = ((all_slice (λ (x : PAtom). All (λ name. IsDeclared (agent_names (content_of p)) name) (texts x.parties) × All (IsOutDeclared p) x.outs) p.atoms n atom (outs_declared p known) at).1 i o l).agents in
-      All-map (λ (next : NextContent). All (λ name. IsNamedParty (content_of p) n name × IsNamedParty (content_of p) (place_of next.atom (atom_names (content_of p))) name) next.agents) next_content out.nexts (λ k d m.
-      let next = get_or out.nexts k d in
-      All-map (λ name. IsNamedParty (content_of p) n name × IsNamedParty (content_of p) (place_of next.atom.text (atom_names (content_of p))) name) (λ (w : Word). w.text) next.agents (λ j w q.
-      let word = get_or next.agents j w in
-      let there = agent_of p once word.text (declared_word out.nexts names k d m j w q) in
-      let a = place_of word.text (agent_names (content_of p)) in
-      let none = all_slice (λ (x : PAgent). is_stranger p atom next x ≡ false) p.agents a there.agent
-      (no_agent_so next.atom.line (λ b. kinds.NextStranger (record { 0 = keeps.number }) b (record { 0 = atom_number p.atoms next.atom })) (is_stranger p atom next) p.agents
-      (among_none (next_stranger_on p atom keeps.number) out.nexts keeps.kept k d m)) there.at in
-      let both = and_parts (stands_in atom.parties there.agent.name) (is_party_at p.atoms next.atom there.agent)
-      (not_not (stands_in atom.parties there.agent.name && is_party_at p.atoms next.atom there.agent)
-      (not_both (stands_in next.agents there.agent.name) (not (stands_in atom.parties there.agent.name && is_party_at p.atoms next.atom there.agent)) none
-      (word_stands next.agents j w there.agent.name q there.is))) in
-      (party_from p once n atom at a there.agent there.at both.0, party_at p once next.atom a there.agent there.at both.1)))
-    where
-      declared_word : (nexts : List PNext) → All (λ (next : NextContent). All (λ name. IsDeclared (agent_names (content_of p)) name) next.agents) (map next_content nexts) → (k : ℕ) (d : PNext) → k < length nexts → (j : ℕ) (w : Word) → j < length (get_or nexts k d).agents →
-          IsDeclared (agent_names (content_of p)) (get_or (get_or nexts k d).agents j w).text
-      declared_word nexts all k d m j w q = All-unmap (λ name. IsDeclared (agent_names (content_of p)) name) (λ (x : Word). x.text) (get_or nexts k d).agents (All-unmap (λ (next : NextContent). All (λ name. IsDeclared (agent_names (content_of p)) name) next.agents) next_content nexts all k d m) j w q
+      All-map (HasNoStranger (content_of p) n) next_content out.nexts (λ k e m. strangers_at n atom at (get_or out.nexts k e)
+      (All-unmap (λ (next : NextContent). All (λ name. IsDeclared (agent_names (content_of p)) name) next.agents) next_content out.nexts names k e m) keeps.number
+      (among_none (next_stranger_on p atom keeps.number) out.nexts keeps.kept k e m))
 
   pub no_stranger : broken rules.NextStranger p ≡ None → Holds NoStranger (content_of p)
   no_stranger h = by_placed p once (λ n out. All (HasNoStranger (content_of p) n) out.nexts) (λ n atom at i d l. strangers_kept n atom at i d l (kept_by rules.NextStranger p 0 p.atoms h n atom at i d l))

@@ -1,8 +1,8 @@
 -- What a told fault of shape says of the text's content.
-use Rattle.std.proofs.Common.{◌≡◌, ◌≢◌, ℕ, ◌+◌, ◌*◌, ◌<◌, ◌≤◌, ◌==◌, Bool, true, false, not, ◌&&◌, nat_lt, cond, List, [], ◌∷◌, ◌++◌, length, map, take, get_or, Some, None, slice_get, slice_index, suc, refl, sym, subst, ap, ◌∙◌, arith, eqb-true, eq-eqb, leb-true, lit<}
+use Rattle.std.proofs.Common.{◌≡◌, ◌≢◌, ℕ, ◌+◌, ◌*◌, ◌<◌, ◌≤◌, ◌==◌, Bool, true, false, not, ◌&&◌, nat_lt, cond, List, [], ◌∷◌, ◌++◌, length, map, take, get_or, Option, Some, None, slice_get, slice_index, suc, refl, sym, subst, ap, ◌∙◌, arith, eqb-true, eq-eqb, leb-true, lit<}
 use Rattle.std.proofs.lemmas.Bool.{false≢true, and_parts, and_from, ltb-false}
 use Rattle.std.proofs.lemmas.Option.{same_Some, none-some, slice_get-get_or, slice_get-map}
-use Rattle.std.proofs.lemmas.List.{length-map, get_or-map, map-append}
+use Rattle.std.proofs.lemmas.List.{length-map, length-take, get_or-map, get_or-take, map-append}
 use Rattle.std.proofs.lemmas.List.FromFn.{get_or-range_with_len, length-range_with_len}
 use Rattle.std.proofs.lemmas.List.Quantifiers.{position-Some}
 use Rattle.std.specs.List.{All, list_any, range_with_len, position, position_or_len, take-map, flat_map}
@@ -28,13 +28,14 @@ use Rattle.nego_reader.specs.declared.parsed.PCase.{PCase}
 use Rattle.nego_reader.specs.declared.parsed.PSet.{PSet}
 use Rattle.nego_reader.specs.declared.parsed.PTerm.{PTerm}
 use Rattle.nego_reader.specs.declared.parsed.PTerm.TheVariants as terms
-use Rattle.nego_reader.specs.Content.{AtomContent, NextContent, content_of, agent_content, atom_content, out_content, next_content, case_content, set_content, term_content}
+use Rattle.nego_reader.specs.Content.{AtomContent, NextContent, CaseContent, content_of, agent_content, atom_content, out_content, next_content, case_content, set_content, term_content}
 use Rattle.nego_shape.specs.declared.checks.outcomes.Rule.TheVariants as rules
 use Rattle.nego_shape.specs.declared.fault.Many.TheVariants as many
 use Rattle.nego_shape.specs.declared.fault.ShapeFault.{ShapeFault}
 use Rattle.nego_shape.specs.declared.fault.ShapeKind.{ShapeKind}
 use Rattle.nego_shape.specs.declared.fault.ShapeKind.TheVariants as kinds
 use Rattle.nego_shape.proofs.ConditionLaws.{rank_of}
+use Rattle.nego_shape.specs.Firsts.{first_numbered}
 use Rattle.nego_shape.specs.Laws.{kind_of}
 use Rattle.nego_shape.specs.Made.{placed_at}
 use Rattle.nego_shape.specs.Told.{IsSo, HasSome, IsOn, is_named}
@@ -44,13 +45,13 @@ use Rattle.nego_shape.specs.Shaped as shaped
 use Rattle.nego_shape.specs.Faults.{fault_on, same, stands_in, is_party_at, out_names, no_agent, twice_in, unknown_in, no_party, no_party_at, no_outcome, no_outcome_at, lacks, agent_fault, is_last, is_missing, is_stranger, next_stranger_on, atom_number, case_line, case_names, is_outside, not_party_on, is_overfull, is_too_large, value_too_large_on, broken_at, zero_size, zero_size_at, size_too_large, size_too_large_at, joint_from, joint_too_large, size_fault, first_uncovered, not_total, shape_fault}
 use Rattle.nego_shape.proofs.FirstLaws.{or_found, or_missed}
 use Rattle.nego_shape.proofs.ListPlaces.{is_in_at}
-use Rattle.nego_shape.proofs.Misses.{not_not, not_both}
+use Rattle.nego_shape.proofs.Misses.{not_not, not_both, numbered_at}
 use Rattle.nego_shape.proofs.PartsMade.{sizes_read}
 use Rattle.nego_shape.proofs.Sought.{position_or_len-map, position_or_len-within}
-use Rattle.nego_shape.proofs.SoundCases.{size_there, parties_kept, below_kept}
+use Rattle.nego_shape.proofs.SoundCases.{size_there, parties_at, parties_kept, below_at, below_kept}
 use Rattle.nego_shape.proofs.SoundShape.{covered_out}
 use Rattle.nego_shape.proofs.SoundPlaces.{some_below, all_slice, any_at, agent_at, place_is, stand, party_from, party_stands, party_at, last_is, is_last_at}
-use Rattle.nego_shape.proofs.SoundRules.{All-unmap, some_party, some_outcome, sent_from, sends_kept, strangers_kept, ends_kept}
+use Rattle.nego_shape.proofs.SoundRules.{All-unmap, some_party, some_outcome, sent_from, sends_kept, strangers_at, strangers_kept, ends_kept}
 use Rattle.nego_shape.proofs.FaultlessSearches.{any_passes}
 use Rattle.nego_shape.proofs.FaultlessPlaces.{agent_place, party_named, sent_named}
 use Rattle.nego_shape.proofs.FaultlessCases.{case_has}
@@ -126,6 +127,13 @@ names_of_outs [] = refl
 names_of_outs (atom ∷ atoms) =
     ap (λ (names : List Word). map (λ (out : POut). out.name) atom.outs ++ names) (names_of_outs atoms)
     ∙ sym (map-append (λ (out : POut). out.name) atom.outs (flat_map (λ (x : PAtom). x.outs) atoms))
+
+-- what the items have of which nothing is given, before the one of which something is
+sound_before : {A : Type 0} (f : A → Option ShapeFault) (P : A → Type 0) (xs : List A) (k : ℕ) → ((j : ℕ) (d : A) → j < length xs → f (get_or xs j d) ≡ None → P (get_or xs j d)) → first_numbered (λ i x. f x) 0 (take k xs) ≡ None → All P (take k xs)
+sound_before f P xs k each none j d l =
+    let long = length-take k xs in
+    let is : get_or (take k xs) j d ≡ get_or xs j d = get_or-take k xs j d (omega (arith, l, long)) in
+    subst P (sym is) (each j d (omega (arith, l, long)) (subst (λ x. f x ≡ None) is (numbered_at (λ i x. f x) 0 (take k xs) none j d l)))
 
 module _ (p : Parsed) where
   -- what a fault says
@@ -236,6 +244,13 @@ module _ (p : Parsed) where
     last_tells : (x : ShapeFault) → lacks kinds.LastLacks p.last p ≡ Some x → Tells x
     last_tells x h = let r = lacks_tells kinds.LastLacks p.last x declared.last h in subst Tells r.4 ((r.1, r.2, r.3), refl)
 
+    -- the names in a case of an outcome are declared
+    cases_known : (o n : ℕ) (out : POut) → slice_get (all_outs (content_of p)) o ≡ Some (placed_at n (out_content out)) → (j : ℕ) (e : PCase) → j < length out.cases →
+        All (λ name. IsDeclared (agent_names (content_of p)) name) (shaped.case_names (case_content (get_or out.cases j e)))
+    cases_known o n out there j e l =
+        All-unmap (λ (x : CaseContent). All (λ name. IsDeclared (agent_names (content_of p)) name) (shaped.case_names x)) case_content out.cases
+        (all_slice (λ (placed : PlacedOut). All (λ (x : CaseContent). All (λ name. IsDeclared (agent_names (content_of p)) name) (shaped.case_names x)) placed.out.cases) (all_outs (content_of p)) o (placed_at n (out_content out)) declared.cases there) j e l
+
     -- an agent of a name in a case is one of those that the case names
     named_in : (a : ℕ) (agent : PAgent) → slice_get p.agents a ≡ Some agent → (case : PCase) → case_names agent.name case ≡ true → is_named (content_of p) a (case_content case) ≡ true
     named_in a agent at case t =
@@ -288,6 +303,11 @@ module _ (p : Parsed) where
           (All-unmap (λ (m : NextContent). IsDeclared (atom_names c) m.atom) next_content r.out.nexts
           (all_slice (λ (placed : PlacedOut). All (λ (m : NextContent). IsDeclared (atom_names c) m.atom) placed.out.nexts) (all_outs c) r.number (placed_at r.place (out_content r.out)) declared.next_atoms r.there))
           next.at in
+          let no_strangers = sound_before (next_stranger_on p r.atom r.number) (λ m. HasNoStranger c r.place (next_content m)) r.out.nexts next.place
+          (λ j e l none. strangers_at p once known r.place r.atom r.at (get_or r.out.nexts j e)
+          (All-unmap (λ (m : NextContent). All (λ name. IsDeclared (agent_names c) name) m.agents) next_content r.out.nexts
+          (all_slice (λ (placed : PlacedOut). All (λ (m : NextContent). All (λ name. IsDeclared (agent_names c) name) m.agents) placed.out.nexts) (all_outs c) r.number (placed_at r.place (out_content r.out)) declared.next_agents r.there) j e l) r.number none)
+          next.before in
           let leads : leads_to c s.number n (next_content next.item) ≡ true =
           (and_from (place_of name.text (atom_names c) == n) (is_in s.number (places_of (next_content next.item).agents (agent_names c)))
           (eq-eqb (place_of name.text (atom_names c)) n (sym (number_is name))) (stand p once s.number s.agent s.at next.item.agents ∙ two.0)) in
@@ -303,7 +323,7 @@ module _ (p : Parsed) where
               );
               before = r.before;
             },
-            (r.out, r.in_text, (next.place, (next.item, next.at, (refl, leads)))),
+            (placed_at r.place (out_content r.out), r.there, (r.out, r.in_text, (next.place, record { item = next.item; at = next.at; so = (refl, leads); before = no_strangers }))),
           )
 
       leads_tells : (x : ShapeFault) → OutFound (broken_at rules.LastLeads p) (EndsLast (content_of p)) p.atoms x → Tells x
@@ -321,6 +341,8 @@ module _ (p : Parsed) where
           let case = among_some (not_party_on p r.atom r.number) r.out.cases x r.gives in
           let s = agent_some (case_line case.item) (kinds.NotParty (record { 0 = r.number })) (is_outside r.atom case.item) p.agents x case.gives in
           let two = and_parts (case_names s.agent.name case.item) (not (stands_in r.atom.parties s.agent.name)) s.passes in
+          let parties = sound_before (not_party_on p r.atom r.number) (λ x. NamesParties c r.place (case_content x)) r.out.cases case.place
+          (λ j e l none. parties_at p once known r.place r.atom r.at (get_or r.out.cases j e) (cases_known r.number r.place r.out r.there j e l) r.number none) case.before in
           let named = named_in s.number s.agent s.at case.item two.0 in
           subst Tells s.is (
             record {
@@ -333,7 +355,7 @@ module _ (p : Parsed) where
               );
               before = r.before;
             },
-            (r.out, r.in_text, (case.place, (case.item, case.at, (refl, named)))),
+            (placed_at r.place (out_content r.out), r.there, (r.out, r.in_text, (case.place, record { item = case.item; at = case.at; so = (refl, named); before = parties }))),
           )
 
       not_fitting : (term : PTerm) (size : ℕ) → is_too_large size term ≡ true → FitsSize (term_in (content_of p) (term_content term)) size → ⊥
@@ -349,6 +371,8 @@ module _ (p : Parsed) where
           let s = agent_some (case_line case.item) (kinds.ValueTooLarge (record { 0 = r.number })) (is_overfull case.item) p.agents x case.gives in
           let set = any_at (λ (y : PSet). same s.agent.name y.agent && is_too_large s.agent.size y.term) case.item.sets s.passes in
           let two = and_parts (same s.agent.name set.item.agent) (is_too_large s.agent.size set.item.term) set.passes in
+          let below = sound_before (value_too_large_on p r.number) (λ x. AssignsBelow (sizes_in c) (case_in c (case_content x))) r.out.cases case.place
+          (λ j e l none. below_at p once known (get_or r.out.cases j e) (cases_known r.number r.place r.out r.there j e l) r.number none) case.before in
           let over : HasSome (case_in c (case_content case.item)).sets (λ y. (y.agent.0 ≡ s.number) × (¬ FitsSize y.term (slice_index (sizes_in c) s.number))) = (
             set.place,
             (
@@ -374,7 +398,7 @@ module _ (p : Parsed) where
               );
               before = r.before;
             },
-            (r.out, r.in_text, (case.place, (case.item, case.at, (refl, over)))),
+            (r.out, r.in_text, (case.place, record { item = case.item; at = case.at; so = (refl, over); before = below })),
           )
 
   -- what is told is so

@@ -148,9 +148,10 @@ abbrev pub outs_of : Parsed → List POut
 outs_of p = flat_map (λ atom. atom.outs) p.atoms
 
 -- On which line a fault of this kind stands: on line 1, where there is no agent; on that of the first agent, atom or outcome
--- too many, of a word that stands for the second time or isn't declared, of the atom, of the agent, or of the outcome; on the line that names the first or the last atom; on a next line
--- of the outcome on which the agent stands; on the outcome's first next line; and on that of a case of the outcome that
--- names the agent, or that assigns the agent a number which isn't below the size.
+-- too many, of a word that stands for the second time or isn't declared, of the atom, of the agent, or of the outcome; on the line that names the first or the last atom; on the first
+-- next line of the outcome that has a stranger, on which the agent stands; on the outcome's first next line; and on that of
+-- the first case of the outcome that names one who is no party, as it does this agent, or that assigns a number which isn't
+-- below the size, as it does to this agent.
 abbrev pub IsOn : Parsed → ShapeKind → ℕ → Type 0
 IsOn p kinds.NoAgent line = line ≡ 1
 IsOn p (kinds.TooMany many.Agents) line = HasAt p.agents 16 (λ agent. line ≡ agent.name.line)
@@ -163,11 +164,15 @@ IsOn p (kinds.NoOutcome n) line = HasAt p.atoms n.0 (λ atom. line ≡ atom.name
 IsOn p (kinds.FirstLacks a) line = line ≡ p.first.line
 IsOn p (kinds.LastLacks a) line = line ≡ p.last.line
 IsOn p (kinds.NextMissing o a) line = HasAt (outs_of p) o.0 (λ out. line ≡ out.name.line)
-IsOn p (kinds.NextStranger o a n) line = HasAt (outs_of p) o.0 (λ out. HasSome out.nexts (λ next. (line ≡ next.atom.line) × IsTrue (leads_to (content_of p) a.0 n.0 (next_content next))))
+IsOn p (kinds.NextStranger o a n) line =
+    HasAt (all_outs (content_of p)) o.0 (λ placed. HasAt (outs_of p) o.0 (λ out. (k : ℕ) × HasFirst out.nexts k (λ next. (line ≡ next.atom.line) × IsTrue (leads_to (content_of p) a.0 n.0 (next_content next))) (λ next. HasNoStranger (content_of p) placed.atom (next_content next))))
 IsOn p (kinds.LastLeads o) line = HasAt (outs_of p) o.0 (λ out. HasAt out.nexts 0 (λ next. line ≡ next.atom.line))
-IsOn p (kinds.NotParty o a) line = HasAt (outs_of p) o.0 (λ out. HasSome out.cases (λ case. (line ≡ case_line case) × IsTrue (is_named (content_of p) a.0 (case_content case))))
+IsOn p (kinds.NotParty o a) line =
+    HasAt (all_outs (content_of p)) o.0 (λ placed. HasAt (outs_of p) o.0 (λ out. (k : ℕ) × HasFirst out.cases k (λ case. (line ≡ case_line case) × IsTrue (is_named (content_of p) a.0 (case_content case))) (λ case. NamesParties (content_of p) placed.atom (case_content case))))
 IsOn p (kinds.ZeroSize a) line = HasAt p.agents a.0 (λ agent. line ≡ agent.name.line)
 IsOn p (kinds.SizeTooLarge a) line = HasAt p.agents a.0 (λ agent. line ≡ agent.name.line)
 IsOn p (kinds.JointTooLarge a) line = HasAt p.agents a.0 (λ agent. line ≡ agent.name.line)
-IsOn p (kinds.ValueTooLarge o a) line = HasAt (outs_of p) o.0 (λ out. HasSome out.cases (λ case. (line ≡ case_line case) × HasSome (case_in (content_of p) (case_content case)).sets (λ set. (set.agent.0 ≡ a.0) × (¬ FitsSize set.term (slice_index (sizes_in (content_of p)) a.0)))))
+IsOn p (kinds.ValueTooLarge o a) line =
+    HasAt (outs_of p) o.0 (λ out. (k : ℕ) × HasFirst out.cases k (λ case. (line ≡ case_line case) × HasSome (case_in (content_of p) (case_content case)).sets (λ set. (set.agent.0 ≡ a.0) × (¬ FitsSize set.term (slice_index (sizes_in (content_of p)) a.0))))
+    (λ case. AssignsBelow (sizes_in (content_of p)) (case_in (content_of p) (case_content case))))
 IsOn p (kinds.NotTotal o d) line = HasAt (outs_of p) o.0 (λ out. line ≡ out.name.line)
