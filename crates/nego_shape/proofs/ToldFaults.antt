@@ -60,7 +60,10 @@ use Rattle.nego_shape.proofs.ToldTwice.{told_twice}
 use Rattle.nego_shape.proofs.ToldUnknown.{told_unknown}
 use Rattle.nego_shape.proofs.Tellings.{not_so, map_some, if_some, numbered_some, among_some, agent_some, OutFound}
 use Rattle.nego_shape.proofs.KindRanks.{check, breach, partial, all_made}
-use Rattle.nego_shape.proofs.FirstBroken.{NoneBelow, once_below, known_below, declared_below}
+use Rattle.nego_shape.specs.declared.fault.ShapeAnswer.{ShapeAnswer}
+use Rattle.nego_shape.specs.declared.fault.ShapeAnswer.TheVariants as answers
+use Rattle.nego_shape.specs.Answer.{HasCause, TellsBreach}
+use Rattle.nego_shape.proofs.FirstBroken.{first_broken, NoneBelow, once_below, known_below, declared_below}
 
 -- a list of no length is mapped to none, and one with a first item isn't
 empty : {A B : Type 0} (f : A → B) (xs : List A) → (length xs == 0) ≡ true → map f xs ≡ []
@@ -462,3 +465,8 @@ module _ (p : Parsed) where
 
   pub told_is_on : (fault : ShapeFault) → shape_fault p ≡ Some fault → IsOn p fault.kind fault.line
   told_is_on fault h = (told_all fault h).1
+
+-- an answer that is no diagram tells the first breach
+pub tells_breach : (p : Parsed) (e : ShapeAnswer) → HasCause e p → TellsBreach e p
+tells_breach p answers.Memory h = tt
+tells_breach p (answers.Off fault) h = record { first = first_broken p fault h; so = told_is_so p fault h; on = told_is_on p fault h }

@@ -3,7 +3,7 @@
 ghost use Rattle.std.specs.Prelude.{◌≡◌, None, IfOk, IfErr};
 ghost use Rattle.nego_model.specs.Diagram.{IsDiagram};
 ghost use Rattle.nego_reader.specs.Content.{content_of};
-ghost use Rattle.nego_shape.specs.Answer.{HasCause, LacksShape, HasJoint};
+ghost use Rattle.nego_shape.specs.Answer.{HasCause, TellsBreach, LacksShape, HasJoint};
 ghost use Rattle.nego_shape.specs.Faults.{shape_fault};
 ghost use Rattle.nego_shape.specs.Naming.{diagram_in};
 ghost use Rattle.nego_shape.specs.Conditions.{HasShape};
@@ -26,6 +26,7 @@ pub fn shape(alloc: Global, p: &Parsed) -> Result<Diagram, ShapeAnswer>
     ensures content { IfOk result (λ d. d ≡ diagram_in (content_of p.now)) }
     ensures diagram { IfOk result IsDiagram }
     ensures err { IfErr result (λ e. HasCause e p.now) }
+    ensures told { IfErr result (λ e. TellsBreach e p.now) }
     ensures misshapen { IfErr result (λ e. LacksShape e p.now) }
     ensures joint { IfErr result (λ e. HasJoint e p.now) }
 {

@@ -4,7 +4,7 @@ use Rattle.std.proofs.lemmas.Result.{IfOk-weaker, IfErr-weaker}
 use Rattle.nego_shape.specs.declared.fault.ShapeAnswer.TheVariants.{Off}
 use Rattle.nego_reader.specs.declared.parsed.Parsed.{Parsed}
 use Rattle.nego_reader.specs.Content.{content_of}
-use Rattle.nego_shape.specs.Answer.{Tells, HasCause, LacksShape, HasJoint}
+use Rattle.nego_shape.specs.Answer.{Tells, HasCause, TellsBreach, LacksShape, HasJoint}
 use Rattle.nego_shape.specs.Faults.{form_fault, not_total, shape_fault}
 use Rattle.nego_shape.specs.Naming.{diagram_in}
 use Rattle.nego_shape.specs.Conditions.{IsFormed, HasShape}
@@ -13,6 +13,7 @@ use Rattle.nego_shape.proofs.ConditionLaws.{form_shape}
 use Rattle.nego_shape.proofs.FirstLaws.{or_found, or_missed}
 use Rattle.nego_shape.proofs.FaultlessShape.{lacks_shape}
 use Rattle.nego_shape.proofs.JointLaws.{form_joint, total_joint, told_joint}
+use Rattle.nego_shape.proofs.ToldFaults.{tells_breach}
 use Rattle.nego_shape.proofs.SoundShape.{shaped_form, total}
 use Rattle.nego_shape.proofs.shaping.shape.Goals as goal
 
@@ -74,3 +75,15 @@ returns-clause-misshapen c =
     let formed : form_fault p ≡ None = sym c.in_ok-fault.ensures ∙ c.in_default.is in
     IfErr-weaker c.diagram.result (λ e. Tells e (not_total c.in_ok-numbered.numbered)) (λ e. LacksShape e p)
     (λ e h. lacks_shape p e (subst (Tells e) (ap not_total c.in_ok-numbered.ensures ∙ sym (or_missed (form_fault p) (not_total p) formed)) h)) c.diagram.ensures.err
+
+pub returns-in-Some-clause-told : goal.returns-in-Some-clause-told
+returns-in-Some-clause-told c =
+    let p = c.args.p.now in
+    tells_breach p (Off c.in-Some.fault) (or_found (form_fault p) (not_total p) c.in-Some.fault (sym c.in_ok-fault.ensures ∙ c.in-Some.is))
+
+pub returns-clause-told : goal.returns-clause-told
+returns-clause-told c =
+    let p = c.args.p.now in
+    let formed : form_fault p ≡ None = sym c.in_ok-fault.ensures ∙ c.in_default.is in
+    IfErr-weaker c.diagram.result (λ e. Tells e (not_total c.in_ok-numbered.numbered)) (λ e. TellsBreach e p)
+    (λ e h. tells_breach p e (subst (Tells e) (ap not_total c.in_ok-numbered.ensures ∙ sym (or_missed (form_fault p) (not_total p) formed)) h)) c.diagram.ensures.err
