@@ -4,7 +4,7 @@ use Rattle.nego_base.specs.declared.fault.Fault.{Fault}
 use Rattle.nego_model.specs.Diagram.{PlainDiagram, IsDiagram}
 use Rattle.nego_reader.specs.declared.parsed.Parsed.{Parsed}
 use Rattle.nego_reader.specs.Spelling.{Spells}
-use Rattle.nego_reader.specs.Reading.{diagram_fault}
+use Rattle.nego_reader.specs.Table.{IsFirstFault}
 use Rattle.nego_shape.specs.declared.fault.ShapeFault.{ShapeFault}
 use Rattle.nego_shape.specs.Faults.{shape_fault}
 use Rattle.nego_cli.specs.declared.failure.PartName.{PartName}
@@ -26,7 +26,7 @@ pub record SpellsDiagram (text : List ℕ) (d : PlainDiagram) : Type 0 where
 
 -- The text is off its grammar, first at this fault.
 abbrev pub IsOff : List ℕ → Refusal → Type 0
-IsOff text why = (fault : Fault) × (why ≡ Off Diagram fault) × (diagram_fault text ≡ Some fault) × ((p : Parsed) → ¬ Spells text p)
+IsOff text why = (fault : Fault) × (why ≡ Off Diagram fault) × IsFirstFault text fault × ((p : Parsed) → ¬ Spells text p)
 
 -- The value that the text spells has a fault of shape, of which this is the first.
 abbrev pub IsMisshapen : List ℕ → Refusal → Type 0
