@@ -9,7 +9,7 @@ use Rattle.nego_io.proofs.OutsideLaws.{told_so}
 use Rattle.nego_model.specs.Diagram.{PlainDiagram}
 use Rattle.nego_reader.specs.declared.parsed.Parsed.{Parsed}
 use Rattle.nego_reader.specs.Spelling.{Spells}
-use Rattle.nego_reader.proofs.Said.{spelled_once}
+use Rattle.nego_reader.proofs.Said.{spelled_once, first_fault_once}
 use Rattle.nego_shape.specs.declared.fault.ShapeFault.{ShapeFault}
 use Rattle.nego_shape.specs.Answer.{AreJointIn}
 use Rattle.nego_shape.specs.Faults.{form_fault, not_total, shape_fault}
@@ -52,14 +52,14 @@ misshapen_not text p fault d spelled faulty s =
 
 -- a text that has no diagram spells none
 pub no_diagram_not : (text : List ℕ) (why : Refusal) (d : PlainDiagram) → HasNoDiagram text why → SpellsDiagram text d → ⊥
-no_diagram_not text why d (inl (fault, is, first, unspelled)) s = unspelled s.value s.spelled
+no_diagram_not text why d (inl (fault, is, off)) s = off.nothing s.value s.spelled
 no_diagram_not text why d (inr (p, fault, is, spelled, first)) s = misshapen_not text p fault d spelled first s
 
 -- the reason that a text has no diagram is one
 why_once : (text : List ℕ) (why other : Refusal) → HasNoDiagram text why → HasNoDiagram text other → why ≡ other
-why_once text why other (inl (fault, is, first, unspelled)) (inl (fault', is', first', unspelled')) = is ∙ (ap (refusals.Off parts.Diagram) (same_Some fault fault' (sym first ∙ first')) ∙ sym is')
-why_once text why other (inl (fault, is, first, unspelled)) (inr (p, fault', is', spelled, first')) = absurd (unspelled p spelled)
-why_once text why other (inr (p, fault', is', spelled, first')) (inl (fault, is, first, unspelled)) = absurd (unspelled p spelled)
+why_once text why other (inl (fault, is, off)) (inl (fault', is', off')) = is ∙ (ap (refusals.Off parts.Diagram) (first_fault_once text fault fault' off.first off'.first) ∙ sym is')
+why_once text why other (inl (fault, is, off)) (inr (p, fault', is', spelled, first')) = absurd (off.nothing p spelled)
+why_once text why other (inr (p, fault', is', spelled, first')) (inl (fault, is, off)) = absurd (off.nothing p spelled)
 why_once text why other (inr (p, fault, is, spelled, first)) (inr (q, fault', is', spelled', first')) =
     let same : p ≡ q = spelled_once text p q spelled spelled' in
     is ∙ (ap₂ refusals.Misshapen same (same_Some fault fault' (sym first ∙ (ap shape_fault same ∙ first'))) ∙ sym is')
@@ -80,7 +80,7 @@ joint_of p fault (Some f) is h = some_has (λ x. AreJointIn p x.kind) (form_faul
 joint_of p fault None is h = some_has (λ x. AreJointIn p x.kind) (not_total p) fault (total_joint p (shaped_form p is).sizes) h
 
 named_in : (text : List ℕ) (why : Refusal) → HasNoDiagram text why → IsNamed why
-named_in text why (inl (fault, is, first, unspelled)) = subst IsNamed (sym is) tt
+named_in text why (inl (fault, is, off)) = subst IsNamed (sym is) tt
 named_in text why (inr (p, fault, is, spelled, first)) = subst IsNamed (sym is) (joint_of p fault (form_fault p) refl first)
 
 -- what is named where there is no diagram is there

@@ -24,9 +24,13 @@ pub record SpellsDiagram (text : List ℕ) (d : PlainDiagram) : Type 0 where
   pub shaped : shape_fault value ≡ None
   pub is : d ≡ diagram_of value
 
--- The text is off its grammar, first at this fault.
+-- The text is off its grammar, first at this fault, and spells nothing.
+pub record IsOffAt (text : List ℕ) (fault : Fault) : Type 0 where
+  pub first : IsFirstFault text fault
+  pub nothing : (p : Parsed) → ¬ Spells text p
+
 abbrev pub IsOff : List ℕ → Refusal → Type 0
-IsOff text why = (fault : Fault) × (why ≡ Off Diagram fault) × IsFirstFault text fault × ((p : Parsed) → ¬ Spells text p)
+IsOff text why = (fault : Fault) × (why ≡ Off Diagram fault) × IsOffAt text fault
 
 -- The value that the text spells has a fault of shape, of which this is the first.
 abbrev pub IsMisshapen : List ℕ → Refusal → Type 0
