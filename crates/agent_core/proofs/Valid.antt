@@ -1,5 +1,5 @@
 -- What keeps an agent valid.
-use Rattle.std.proofs.Common.{◌≡◌, ◌≢◌, ◌⊎◌, ℕ, zero, suc, ◌<◌, ◌≤◌, List, [], ◌∷◌, ◌++◌, length, take, fold, slice_get, slice_set, slice_index_or, Option, Some, None, refl, sym, ap, ◌∙◌, subst, inl, inr, ⊎_elim, arith, append-nil, append_assoc}
+use Rattle.std.proofs.Common.{◌≡◌, ◌≢◌, ◌⊎◌, ℕ, zero, suc, ◌<◌, ◌≤◌, List, [], ◌∷◌, ◌++◌, length, take, fold, replicate, slice_get, slice_set, slice_index_or, Option, Some, None, refl, sym, ap, ◌∙◌, subst, inl, inr, ⊎_elim, arith, append-nil, append_assoc}
 use Rattle.std.proofs.lemmas.List.Sums.{fold-append}
 use Rattle.std.proofs.lemmas.List.Elements.{All-contains}
 use Rattle.std.proofs.lemmas.List.{take-append-le, get_or-set_same, get_or-set_other, get_or_past, length-set, length-map}
@@ -15,7 +15,7 @@ use Rattle.agent_msg.specs.Records.{Share, Entry, Moved, Decided}
 use Rattle.nego_model.specs.Diagram.{PlainDiagram, nexts_of}
 use Rattle.std.specs.Option.{option_map, option_map_or}
 use Rattle.agent_core.proofs.Shares.{found_share}
-use Rattle.agent_core.specs.Agents.{PlainAgent, size_of, share_of, value_after, held_from, record_outcome, recorded, beginning, left_by, IsStep, AreSteps, IsForAgent, IsLeftByRecords, IsValid}
+use Rattle.agent_core.specs.Agents.{PlainAgent, size_of, share_of, value_after, held_from, nothing_held, record_outcome, recorded, beginning, left_by, IsStep, AreSteps, IsForAgent, IsLeftByRecords, IsValid}
 
 -- what records leave, and one more
 pub left_by-push : (diagram : PlainDiagram) (a start : ℕ) (records : List Entry) (r : Entry) → left_by diagram a start (records ++ r ∷ []) ≡ recorded diagram (left_by diagram a start records) r
@@ -144,4 +144,26 @@ valid-dropped diagram agent agents ok = record {
   left = ap {A = PlainAgent} (λ g. record g { held = without_from agents agent.held }) ok.left;
   room = length-map agent.held (unless_from agents) ∙ ok.room;
   held = λ p ready h. ok.held p ready (unless_from-some agents (held_from agent p) ready (sym (get_or-map (unless_from agents) agent.held p None) ∙ h));
+}
+
+-- every item of a list of one item many times is this one
+pub get_or-alike : {A : Type 0} (n k : ℕ) (x : A) → slice_index_or (replicate n x) k x ≡ x
+get_or-alike zero k x = refl
+get_or-alike (suc n) zero x = refl
+get_or-alike (suc n) (suc k) x = get_or-alike n k x
+
+-- an agent that holds nothing holds no Ready
+pub none-held : (p : ℕ) (ready : ReadyMessage) → slice_index_or nothing_held p None ≡ Some ready → ⊥
+none-held p ready h = none-some ready (sym (get_or-alike 16 p None) ∙ h)
+
+-- an agent that drops all that it holds stays valid
+pub valid-forgot : (diagram : PlainDiagram) (agent : PlainAgent) → IsValid diagram agent → IsValid diagram (record agent { held = nothing_held })
+valid-forgot diagram agent ok = record {
+  known = ok.known;
+  place = ok.place;
+  value = ok.value;
+  steps = ok.steps;
+  left = ap {A = PlainAgent} (λ g. record g { held = nothing_held }) ok.left;
+  room = refl;
+  held = λ p ready h. absurd (none-held p ready h);
 }

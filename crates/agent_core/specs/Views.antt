@@ -1,8 +1,8 @@
 -- How the program's agents and answers are seen.
-use Rattle.std.specs.Prelude.{◌<◌, ◌≤◌, length, map, Result, Ok, Err}
+use Rattle.std.specs.Prelude.{◌<◌, ◌≤◌, length, map, Result, Ok, Err, ⊤}
 use Rattle.std.specs.Option.{option_map}
 use Rattle.agent_msg.specs.Messages.{ready_message, decide_message}
-use Rattle.agent_msg.specs.Records.{Entry, entry}
+use Rattle.agent_msg.specs.Records.{Entry, entry, IsTidy}
 use Rattle.agent_core.specs.declared.agent.Agent.TheInside.{Inside}
 use Rattle.agent_core.specs.declared.answers.Give.{Give}
 use Rattle.agent_core.specs.declared.answers.Give.TheVariants as gives
@@ -53,3 +53,18 @@ abbrev pub plain_refused : Refused → Undecided
 plain_refused refuseds.Finished = Finished
 plain_refused refuseds.NotLeader = NotLeader
 plain_refused (refuseds.Waits p) = Waits p.0
+
+-- A record that was made of a message is tidy.
+abbrev pub IsTidyGive : Give → Type 0
+IsTidyGive gives.Kept = ⊤
+IsTidyGive (gives.Recorded r) = IsTidy r
+IsTidyGive (gives.Again decide) = ⊤
+IsTidyGive gives.Old = ⊤
+IsTidyGive gives.Stranger = ⊤
+
+-- A record that was decided is tidy.
+abbrev pub IsTidyDecided : Decided → Type 0
+IsTidyDecided (decideds.Done r) = IsTidy r
+IsTidyDecided decideds.Finished = ⊤
+IsTidyDecided decideds.NotLeader = ⊤
+IsTidyDecided (decideds.Waits p) = ⊤

@@ -4,7 +4,7 @@ ghost use Rattle.std.specs.Option.{option_map};
 ghost use Rattle.agent_msg.specs.Messages.{ready_message};
 ghost use Rattle.agent_msg.specs.Records.{entry};
 ghost use Rattle.nego_model.specs.Negotiation.{IsDeterministic};
-ghost use Rattle.nego_model.specs.Diagram.{negotiation_of};
+ghost use Rattle.nego_model.specs.Diagram.{PlainDiagram, negotiation_of};
 ghost use Rattle.agent_core.specs.Agents.{held_from, nothing_held, IsValid};
 ghost use Rattle.agent_core.specs.Acts.{ready_of, own_ready};
 
@@ -82,6 +82,7 @@ impl Agent {
     pub fn forget(&mut self)
         ensures agent { self.new.plain ≡ record self.old.plain { held = nothing_held } }
         ensures spare { self.new.spare ≡ self.old.spare }
+        ensures valid { (d : PlainDiagram) → IsValid d self.old.plain → IsValid d self.new.plain }
     {
         self.held = [None; 16];
     }

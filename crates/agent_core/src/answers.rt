@@ -12,7 +12,7 @@ pub enum Give {
     Recorded(Record),
     /// The agent decided on this Ready, and tells the Decide again.
     Again(Decide),
-    /// The agent recorded this Decide, or a later one.
+    /// The agent has more records than the Decide's visit.
     Old,
     /// The message isn't one for the agent now.
     Stranger,

@@ -1,15 +1,15 @@
 //! How an agent decides.
-ghost use Rattle.std.specs.Prelude.{◌≡◌, ◌+◌, ◌<◌, ◌≤◌, ℕ, length, map, slice_index, Ok, Err, IsTrue};
+ghost use Rattle.std.specs.Prelude.{◌≡◌, ◌+◌, ◌<◌, ◌≤◌, ℕ, false, length, map, slice_index, Ok, Err, IsTrue};
 ghost use Rattle.std.specs.Option.{option_map};
 ghost use Rattle.std.specs.Result.{result_ok};
 ghost use Rattle.nego_base.specs.Members.{is_in};
 ghost use Rattle.nego_model.specs.Negotiation.{IsDeterministic};
 ghost use Rattle.nego_model.specs.Diagram.{negotiation_of};
 ghost use Rattle.agent_msg.specs.Messages.{ready_message};
-ghost use Rattle.agent_msg.specs.Records.{entry};
+ghost use Rattle.agent_msg.specs.Records.{entry, IsTidy};
 ghost use Rattle.agent_core.specs.Agents.{IsStep, IsValid};
 ghost use Rattle.agent_core.specs.Deciding.{atom_to_decide, decision_by, unless_from, without_from, decided, after_decision, reduces};
-ghost use Rattle.agent_core.specs.Views.{plain_decided, plain_refused};
+ghost use Rattle.agent_core.specs.Views.{plain_decided, plain_refused, IsTidyDecided};
 
 use crate::answers::Refused;
 use crate::picking::pick;
@@ -43,6 +43,7 @@ impl Agent {
         ensures agent { self.new.plain ≡ after_decision d.now self.old.plain c }
         ensures spare { self.new.spare + length self.new.plain.records ≡ self.old.spare + length self.old.plain.records }
         ensures valid { IsValid d.now self.new.plain }
+        ensures tidy { IsTidyDecided result }
     {
         let n = match self.atom_to_decide(d) {
             Ok(n) => n,
@@ -60,6 +61,7 @@ impl Agent {
         requires atom { atom_to_decide d.now self.now.plain ≡ Ok n.0 }
         ensures value { entry result ≡ decision_by d.now self.now.plain n.0 c }
         ensures step { IsStep d.now self.now.plain (entry result) }
+        ensures tidy { IsTidy result }
     {
         let picked = pick(d, n, self.known_joint(d, n), c);
         let parties = d.parties(n);
@@ -83,7 +85,8 @@ impl Agent {
 
 /// The numbers of these agents, and 0 for each other.
 fn only(numbers: &[u16; 16], agents: AgentSet) -> [u16; 16]
-    ensures { (p : ℕ) → IsTrue (is_in p agents) → slice_index result p ≡ slice_index numbers.now p }
+    ensures members { (p : ℕ) → IsTrue (is_in p agents) → slice_index result p ≡ slice_index numbers.now p }
+    ensures others { (p : ℕ) → is_in p agents ≡ false → slice_index result p ≡ 0 }
 {
     let mut left = [0; 16];
     if agents.count() == 0 {
@@ -98,7 +101,8 @@ fn only(numbers: &[u16; 16], agents: AgentSet) -> [u16; 16]
 /// The number of an agent, where it is one of these, and else 0.
 fn one_of(numbers: &[u16; 16], agents: AgentSet, p: AgentId) -> u16
     requires { p.0 < 16 }
-    ensures { IsTrue (is_in p.0 agents) → result ≡ slice_index numbers.now p.0 }
+    ensures member { IsTrue (is_in p.0 agents) → result ≡ slice_index numbers.now p.0 }
+    ensures other { is_in p.0 agents ≡ false → result ≡ 0 }
 {
     if agents.has(p) {
         numbers[p.0 as usize]

@@ -8,7 +8,7 @@ ghost use Rattle.agent_msg.specs.Messages.{ReadyOf, DecideOf, message, ready_mes
 ghost use Rattle.agent_msg.specs.Records.{entry};
 ghost use Rattle.agent_core.specs.Agents.{IsValid, shares_in, share_of};
 ghost use Rattle.agent_core.specs.Acts.{Kept, IsUnrecorded, after_act, has_visit, is_for, answered_by, is_passed, is_awaited, given_ready, given_decide, given, taking};
-ghost use Rattle.agent_core.specs.Views.{plain_give};
+ghost use Rattle.agent_core.specs.Views.{plain_give, IsTidyGive};
 
 use crate::reading::{is_outcome, is_party};
 use crate::{Agent, Give};
@@ -78,6 +78,7 @@ impl Agent {
         ensures agent { self.new.plain ≡ after_act d.now self.old.plain (taking self.old.plain (message m.now) (plain_give result)) }
         ensures spare { self.new.spare + length self.new.plain.records ≡ self.old.spare + length self.old.plain.records }
         ensures valid { IsValid d.now self.new.plain }
+        ensures tidy { IsTidyGive result }
     {
         match m {
             Msg::Ready(ready) if ready.to == self.id => self.give_ready(d, ready),
@@ -94,6 +95,7 @@ impl Agent {
         ensures agent { self.new.plain ≡ after_act d.now self.old.plain (taking self.old.plain (ReadyOf (ready_message ready.now)) (plain_give result)) }
         ensures spare { self.new.spare ≡ self.old.spare }
         ensures valid { IsValid d.now self.new.plain }
+        ensures tidy { IsTidyGive result }
     {
         let answer = self.answer_ready(d, ready);
         if let Give::Kept = answer {
@@ -173,6 +175,7 @@ impl Agent {
         ensures agent { self.new.plain ≡ after_act d.now self.old.plain (taking self.old.plain (DecideOf (decide_message decide.now)) (plain_give result)) }
         ensures spare { self.new.spare + length self.new.plain.records ≡ self.old.spare + length self.old.plain.records }
         ensures valid { IsValid d.now self.new.plain }
+        ensures tidy { IsTidyGive result }
     {
         if decide.visit < self.visit() {
             return Give::Old;

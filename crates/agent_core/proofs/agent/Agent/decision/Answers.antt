@@ -26,8 +26,8 @@ returns-clause-value c =
     let each : (p : ℕ) → IsTrue (is_in p c.parties-parties.result) → share c.only.result c.only-2.result p ≡ share_at d agent n e p =
     λ p m.
     let below : p < length d.agents = All-member (λ a. a < length d.agents) p c.parties-parties.result c.parties-parties.ensures.in_range m in
-    let visit = c.only.ensures p m ∙ c.known_visits.ensures p below in
-    let after : slice_index c.only-2.result p ≡ value_in d e p = c.only-2.ensures p m ∙ (ap (λ xs. slice_index xs p) c.split.ensures.value ∙ (at-tuple_of c.sizes.result.now c.pick-picked.result.joint p ∙ (ap (λ s. slice_index (split s c.pick-picked.result.joint) p) c.sizes.ensures ∙ ap (λ j. value_in d j p) joint))) in
+    let visit = c.only.ensures.members p m ∙ c.known_visits.ensures p below in
+    let after : slice_index c.only-2.result p ≡ value_in d e p = c.only-2.ensures.members p m ∙ (ap (λ xs. slice_index xs p) c.split.ensures.value ∙ (at-tuple_of c.sizes.result.now c.pick-picked.result.joint p ∙ (ap (λ s. slice_index (split s c.pick-picked.result.joint) p) c.sizes.ensures ∙ ap (λ j. value_in d j p) joint))) in
     ap {B = Share} (λ v. record { agent = p; visit = v; after = slice_index c.only-2.result p }) visit ∙ ap {B = Share} (λ v. record { agent = p; visit = option_map_or (λ ready. ready.visit) (known_of d agent n p) 0; after = v }) after in
     ap (λ o. Decided n o (map (share c.only.result c.only-2.result) c.parties-parties.result)) outcome
     ∙ (ap (λ ss. Decided n (chosen_outcome d n known c.args.c) ss) (map-members (share c.only.result c.only-2.result) (share_at d agent n e) c.parties-parties.result each)
@@ -50,9 +50,12 @@ returns-clause-step c =
       outcome = (atom_from_below d n (c.requires.valid.place n may.at), c.pick-picked.ensures.own);
       leads = may.leads;
       all = c.parties-parties.ensures.value;
-      visit = c.only.ensures agent.id own ∙ (c.known_visits.ensures agent.id c.requires.valid.known ∙ known);
+      visit = c.only.ensures.members agent.id own ∙ (c.known_visits.ensures agent.id c.requires.valid.known ∙ known);
       below = All-members (λ p. slice_index c.only-2.result p < size_of d p) parties (λ p m.
           let agent_below : p < length d.agents = All-member (λ a. a < length d.agents) p parties c.parties-parties.ensures.in_range m in
           let sized : p < length c.sizes.result.now = omega (arith, agent_below, ap length c.sizes.ensures, c.known_joint.ensures.diagram.sized) in
-          subst (λ v. v < size_of d p) (sym (c.only-2.ensures p m)) (subst (λ xs. slice_index c.split.result p < slice_index xs p) c.sizes.ensures (c.split.ensures.in_range p sized)));
+          subst (λ v. v < size_of d p) (sym (c.only-2.ensures.members p m)) (subst (λ xs. slice_index c.split.result p < slice_index xs p) c.sizes.ensures (c.split.ensures.in_range p sized)));
     })
+
+pub returns-clause-tidy : goal.returns-clause-tidy
+returns-clause-tidy c = record { visits_zero = c.only.ensures.others; afters_zero = c.only-2.ensures.others }
