@@ -24,7 +24,7 @@ mod word_laws;
 mod words;
 
 pub use command::{Command, WordsAnswer};
-pub use order_laws::next_uses_are_one;
+pub use order_laws::{next_uses_are_one, uses_keep};
 pub use status::Status;
 pub use top::nego;
 pub use word_laws::number_words_are_decimals;

@@ -1,8 +1,14 @@
 //! Laws of the order of uses. Each function does nothing; its clause is the law.
 
 ghost use Rattle.nego_cli.specs.Order.{NextUsesAreOne};
+ghost use Rattle.nego_expr.specs.Keeps.{UsesKeep};
 
 /// A work has at most one next use, so that the uses of the order are determined.
 pub fn next_uses_are_one()
     ensures { NextUsesAreOne }
+{}
+
+/// Each use that a work allows, by whichever rule, leaves a work and keeps what this one was.
+pub fn uses_keep()
+    ensures { UsesKeep }
 {}

@@ -89,11 +89,6 @@ EachBase-added P nodes more k node old h m = subst (λ ns. EachBase P ns (length
 
 -- ---- what a node means
 
--- an added node means what it is made of
-pub Means-added : (base : Relation) (nodes more : List PlainNode) (k : ℕ) (node : PlainNode) (d e : ℕ) → IsNodeList (nodes ++ more) → slice_get more k ≡ Some node →
-    Means base (nodes ++ more) (length nodes + k) d e ↔ NodeMeans base (Means base (nodes ++ more)) node d e
-Means-added base nodes more k node d e formed h = Means-at base (nodes ++ more) (length nodes + k) node d e formed (node_behind nodes more k ∙ h)
-
 -- an outcome relates what its node means among nodes to which none or more were added
 pub ByWork-within : (test : RelationTest) (work : PlainWork) (nodes more : List PlainNode) (o : ℕ) (x : WorkOutcome) (d e : ℕ) → work.nodes ≡ nodes ++ more → outcome_at work o ≡ Some x → x.node < length nodes →
     ByWork test work o d e ↔ Means (By test) nodes x.node d e

@@ -40,7 +40,3 @@ ByWork-found test work o x d e h = (
   λ m. subst (λ found. MatchOption (option_map (λ outcome. outcome.node) found) ⊥ (λ node. Means (By test) work.nodes node d e)) h m,
   λ m. subst (λ found. MatchOption (option_map (λ outcome. outcome.node) found) ⊥ (λ node. Means (By test) work.nodes node d e)) (sym h) m,
 )
-
--- nothing is related by a number by which no outcome is found
-pub ByWork-none : (test : RelationTest) (work : PlainWork) (o d e : ℕ) → outcome_at work o ≡ None → ByWork test work o d e → ⊥
-ByWork-none test work o d e h m = subst (λ found. MatchOption (option_map (λ outcome. outcome.node) found) ⊥ (λ node. Means (By test) work.nodes node d e)) h m

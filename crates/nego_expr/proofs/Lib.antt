@@ -18,6 +18,7 @@ pub mod OneAtomLeft
 pub mod Places
 pub mod Printing
 pub mod Seen
+pub mod Tests
 pub mod ThenEach
 pub mod UsableWorks
 pub mod WorkEdits

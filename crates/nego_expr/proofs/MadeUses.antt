@@ -11,17 +11,6 @@ use Rattle.nego_expr.specs.Made.{IsMade}
 abbrev Answer : Type 0
 Answer = Result (Unit {0}) RuleFault
 
--- a use that isn't allowed is refused
-pub refused_guard : (next : PlainUse) (old new : PlainWork) → IsWork old → allows old next ≡ false → new ≡ old → IsMade next old new (Err Guard)
-refused_guard next old new ok not same = record {
-  guard = (λ h. not, λ h. refl);
-  nodes = (λ h. cc, λ h. absurd (true≢false (sym h.0 ∙ not)));
-  made = tt;
-  keeps = tt;
-  err = same;
-  work = subst IsWork (sym same) ok;
-}
-
 module _ (next : PlainUse) (old new : PlainWork) (count : ℕ) (ok : IsWork old) (allowed : IsTrue (allows old next)) (added : length (after_use old next).nodes ≡ length old.nodes + count) where
   -- a use for which there is no room is refused
   pub refused_room : (e : RuleFault) → ◌≢◌ {A = Answer} (Err e) (Err Guard) → ◌≡◌ {A = Answer} (Err e) (Err Nodes) ↔ (most_nodes < length old.nodes + count) → new ≡ old → IsMade next old new (Err e)

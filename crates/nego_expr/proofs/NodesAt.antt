@@ -2,10 +2,11 @@
 use Rattle.std.proofs.Common.{◌≡◌, ◌≢◌, ⊎_elim, ℕ, suc, ◌+◌, Bool, true, false, ◌==◌, cond, List, [], ◌∷◌, ◌++◌, length, slice_get, Some, refl, sym, subst, ap, ap₂, ◌∙◌, arith, eq-eqb, ne_eqb, add-zero}
 use Rattle.std.proofs.lemmas.Bool.{cond-true, cond-false, cases_eq}
 use Rattle.std.proofs.lemmas.Option.{none-some}
+use Rattle.nego_model.specs.Expression.{Then}
 use Rattle.std.proofs.lemmas.List.Elements.{All-nil, All-cons, All-head, All-tail}
 use Rattle.std.specs.List.{All, filter}
 use Rattle.nego_expr.specs.Work.{WorkOutcome, outcome_among}
-use Rattle.nego_expr.specs.Edits.{with_nodes_at}
+use Rattle.nego_expr.specs.Edits.{nodes_then, with_nodes_at}
 use Rattle.nego_expr.proofs.Alive.{outcome_among_later}
 use Rattle.nego_expr.proofs.WorkEdits.{numbers_of, with_node, found_cases}
 
@@ -140,3 +141,23 @@ with_nodes_at-append n i (y ∷ ys) rest = ⊎_elim
     ∙ (ap (◌∷◌ y) (with_nodes_at-append n i ys rest ∙ ap (λ j. with_nodes_at n i ys ++ with_nodes_at n j rest) l)
     ∙ ap (λ zs. zs ++ with_nodes_at n (i + length (of_atom n (y ∷ ys))) rest) (sym (other_first n i y ys e))))
     (cases_eq y.atom n)
+
+-- one outcome more is of the atom, or isn't
+pub of_atom-push : (n : ℕ) (zs : List WorkOutcome) (y : WorkOutcome) → y.atom ≡ n → of_atom n (zs ++ y ∷ []) ≡ of_atom n zs ++ y ∷ []
+of_atom-push n [] y e = own_of n y [] e
+of_atom-push n (z ∷ zs) y e = ⊎_elim
+    (λ k. own_of n z (zs ++ y ∷ []) k ∙ (ap (◌∷◌ z) (of_atom-push n zs y e) ∙ ap (λ ws. ws ++ y ∷ []) (sym (own_of n z zs k))))
+    (λ k. other_of n z (zs ++ y ∷ []) k ∙ (of_atom-push n zs y e ∙ ap (λ ws. ws ++ y ∷ []) (sym (other_of n z zs k))))
+    (cases_eq z.atom n)
+
+pub of_atom-pass : (n : ℕ) (zs : List WorkOutcome) (y : WorkOutcome) → y.atom ≢ n → of_atom n (zs ++ y ∷ []) ≡ of_atom n zs
+of_atom-pass n [] y e = other_of n y [] e
+of_atom-pass n (z ∷ zs) y e = ⊎_elim
+    (λ k. own_of n z (zs ++ y ∷ []) k ∙ (ap (◌∷◌ z) (of_atom-pass n zs y e) ∙ sym (own_of n z zs k)))
+    (λ k. other_of n z (zs ++ y ∷ []) k ∙ (of_atom-pass n zs y e ∙ sym (other_of n z zs k)))
+    (cases_eq z.atom n)
+
+-- a node for one outcome more
+pub nodes_then-push : (x : ℕ) (zs : List WorkOutcome) (y : WorkOutcome) → nodes_then x (zs ++ y ∷ []) ≡ nodes_then x zs ++ Then x y.node ∷ []
+nodes_then-push x [] y = refl
+nodes_then-push x (z ∷ zs) y = ap (◌∷◌ (Then x z.node)) (nodes_then-push x zs y)

@@ -9,11 +9,7 @@ use Rattle.nego_expr.specs.Work.{WorkOutcome}
 use Rattle.nego_expr.specs.Edits.{nodes_then, with_nodes_at}
 use Rattle.nego_expr.proofs.WorkEdits.{with_node}
 use Rattle.nego_expr.proofs.NodesAt.{of_atom, own_of, other_of, own_first, other_first}
-
--- the item between two lists
-at_between : {A : Type 0} (front rest : List A) (y : A) → slice_get (front ++ y ∷ rest) (length front) ≡ Some y
-at_between [] rest y = refl
-at_between (z ∷ front) rest y = at_between front rest y
+use Rattle.nego_expr.proofs.Tests.{at_between}
 
 set_between : {A : Type 0} (front rest : List A) (y z : A) → set (front ++ y ∷ rest) (length front) z ≡ front ++ z ∷ rest
 set_between [] rest y z = refl
@@ -23,9 +19,9 @@ All-between : {A : Type 0} (P : A → Type 0) (front rest : List A) (y z : A) �
 All-between P [] rest y z p h = All-cons P z rest p (All-tail P y rest h)
 All-between P (w ∷ front) rest y z p h = All-cons P w (front ++ z ∷ rest) (All-head P w (front ++ y ∷ rest) h) (All-between P front rest y z p (All-tail P w (front ++ y ∷ rest) h))
 
-module _ (x n : ℕ) (nodes' : List PlainNode) (outcomes' : List WorkOutcome) where
+module _ (x n : ℕ) (nodes' : List PlainNode) (outcomes' : List WorkOutcome) (room' : ℕ) where
   -- How far it has come: the outcomes before a place are done, the rest are to come, and then nodes and outcomes are
-  -- the ones wanted; there is room for the nodes to come.
+  -- the ones wanted; there is room for the nodes to come, and so much more.
   pub record IsUpTo (i : ℕ) (nodes : List PlainNode) (outcomes : List WorkOutcome) (room : ℕ) : Type 0 where
     pub done : List WorkOutcome
     pub rest : List WorkOutcome
@@ -33,7 +29,7 @@ module _ (x n : ℕ) (nodes' : List PlainNode) (outcomes' : List WorkOutcome) wh
     pub place : length done ≡ i
     pub nodes_to_come : nodes ++ nodes_then x (of_atom n rest) ≡ nodes'
     pub outcomes_to_come : done ++ with_nodes_at n (length nodes) rest ≡ outcomes'
-    pub spare : length (of_atom n rest) ≤ room
+    pub spare : length (of_atom n rest) + room' ≡ room
     pub there : x < length nodes
     pub older : All (λ z. z.node < length nodes) outcomes
 
@@ -66,7 +62,7 @@ module _ (x n : ℕ) (nodes' : List PlainNode) (outcomes' : List WorkOutcome) wh
     pub own_room : y.atom ≡ n → 0 < room
     own_room e =
         let l : length (of_atom n h.rest) ≡ suc (length (of_atom n rest)) = ap (λ zs. length (of_atom n zs)) split ∙ ap length (own_of n y rest e) in
-        let k : length (of_atom n h.rest) ≤ room = h.spare in
+        let k : length (of_atom n h.rest) + room' ≡ room = h.spare in
         omega (arith, l, k)
 
     -- it has its node
@@ -85,7 +81,7 @@ module _ (x n : ℕ) (nodes' : List PlainNode) (outcomes' : List WorkOutcome) wh
           ∙ (ap (λ zs. h.done ++ zs) (sym (ap (with_nodes_at n (length nodes)) split ∙ own_first n (length nodes) y rest e)) ∙ h.outcomes_to_come));
       spare =
           let l : length (of_atom n h.rest) ≡ suc (length (of_atom n rest)) = ap (λ zs. length (of_atom n zs)) split ∙ ap length (own_of n y rest e) in
-          let k : length (of_atom n h.rest) ≤ room = h.spare in
+          let k : length (of_atom n h.rest) + room' ≡ room = h.spare in
           omega (arith, l, k);
       there = let k : x < length nodes = h.there in omega (arith, k, more);
       older = subst (All Older) (sym (ap (λ k. set outcomes k (with_node (length nodes) y)) (sym h.place)
@@ -114,20 +110,23 @@ module _ (x n : ℕ) (nodes' : List PlainNode) (outcomes' : List WorkOutcome) wh
           ∙ (ap (λ zs. h.done ++ zs) (sym (ap (with_nodes_at n (length nodes)) split ∙ other_first n (length nodes) y rest e)) ∙ h.outcomes_to_come);
       spare =
           let l : length (of_atom n h.rest) ≡ length (of_atom n rest) = ap (λ zs. length (of_atom n zs)) split ∙ ap length (other_of n y rest e) in
-          let k : length (of_atom n h.rest) ≤ room = h.spare in
+          let k : length (of_atom n h.rest) + room' ≡ room = h.spare in
           omega (arith, l, k);
       there = h.there;
       older = h.older;
     }
 
 -- at the end all is done
-pub up_to_end : (x n : ℕ) (nodes' nodes : List PlainNode) (outcomes' outcomes : List WorkOutcome) (room i : ℕ) → IsUpTo x n nodes' outcomes' i nodes outcomes room → length outcomes ≤ i → (nodes ≡ nodes') × (outcomes ≡ outcomes')
-up_to_end x n nodes' nodes outcomes' outcomes room i h l = go h.rest refl
+pub up_to_end : (x n : ℕ) (nodes' nodes : List PlainNode) (outcomes' outcomes : List WorkOutcome) (room' room i : ℕ) → IsUpTo x n nodes' outcomes' room' i nodes outcomes room → length outcomes ≤ i → (nodes ≡ nodes') × (outcomes ≡ outcomes') × (room ≡ room')
+up_to_end x n nodes' nodes outcomes' outcomes room' room i h l = go h.rest refl
   where
-    go : (rest : List WorkOutcome) → h.rest ≡ rest → (nodes ≡ nodes') × (outcomes ≡ outcomes')
+    go : (rest : List WorkOutcome) → h.rest ≡ rest → (nodes ≡ nodes') × (outcomes ≡ outcomes') × (room ≡ room')
     go [] e = (
       sym (append-nil nodes) ∙ (ap (λ zs. nodes ++ nodes_then x (of_atom n zs)) (sym e) ∙ h.nodes_to_come),
       h.whole ∙ (ap (λ zs. h.done ++ zs) e ∙ (ap (λ zs. h.done ++ with_nodes_at n (length nodes) zs) (sym e) ∙ h.outcomes_to_come)),
+      let k : length (of_atom n h.rest) + room' ≡ room = h.spare in
+          let none : length (of_atom n h.rest) ≡ 0 = ap (λ zs. length (of_atom n zs)) e in
+          omega (arith, k, none),
     )
     go (y ∷ more) e = absurd (
         let all : length outcomes ≡ length h.done + length (y ∷ more) = ap length (h.whole ∙ ap (λ zs. h.done ++ zs) e) ∙ length-append h.done (y ∷ more) in
@@ -136,7 +135,7 @@ up_to_end x n nodes' nodes outcomes' outcomes room i h l = go h.rest refl
 
 -- at the beginning all is to come
 pub up_to_start : (x n : ℕ) (nodes : List PlainNode) (outcomes : List WorkOutcome) (room : ℕ) → length (of_atom n outcomes) ≤ room → x < length nodes → All (λ z. z.node < length nodes) outcomes →
-    IsUpTo x n (nodes ++ nodes_then x (of_atom n outcomes)) (with_nodes_at n (length nodes) outcomes) 0 nodes outcomes room
+    IsUpTo x n (nodes ++ nodes_then x (of_atom n outcomes)) (with_nodes_at n (length nodes) outcomes) (room - length (of_atom n outcomes)) 0 nodes outcomes room
 up_to_start x n nodes outcomes room spare there older = record {
   done = [];
   rest = outcomes;
@@ -144,7 +143,7 @@ up_to_start x n nodes outcomes room spare there older = record {
   place = refl;
   nodes_to_come = refl;
   outcomes_to_come = refl;
-  spare = spare;
+  spare = omega (arith, spare);
   there = there;
   older = older;
 }

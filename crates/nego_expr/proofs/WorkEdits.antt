@@ -133,13 +133,6 @@ filter-swap p q (y ∷ ys) = go (p y) (q y) refl refl (filter-swap p q ys)
     go false true e f k = cond-false (p y) (y ∷ filter p (filter q ys)) (filter p (filter q ys)) e ∙ k
     go false false e f k = k
 
--- where numbers rise, none is found among those that pass a test by the number of one that doesn't
-pub found-failing : (test : WorkOutcome → Bool) (outcomes : List WorkOutcome) (o : ℕ) (x : WorkOutcome) → IsRising (numbers_of outcomes) → outcome_among outcomes o ≡ Some x → test x ≡ false → outcome_among (filter test outcomes) o ≡ None
-found-failing test outcomes o x rise h t = none_found (filter test outcomes) o (λ m.
-    let y = passing_at test (λ z. outcome_among outcomes z.number ≡ Some z) outcomes o (each_found outcomes rise) m in
-    let e : y.0 ≡ x = same_Some y.0 x (sym y.3 ∙ (ap (outcome_among outcomes) y.1 ∙ h)) in
-    true≢false (sym y.2 ∙ (ap test e ∙ t)))
-
 -- ---- each outcome is changed, and none gets another number
 
 module _ (change : WorkOutcome → WorkOutcome) (same : (x : WorkOutcome) → (change x).number ≡ x.number) where

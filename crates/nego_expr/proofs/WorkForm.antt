@@ -148,7 +148,3 @@ fits_from_work work ok = λ k d l. All-weaker Q (OutcomeFits work) fits work.out
           sends = λ a m e. ok.form.next_party x.atom x.number a m is
               (subst (λ xs. IsTrue (is_in m xs)) (sym (next a ∙ ap option_to_list e)) (is_in-head m []));
         }
-
--- of two numbers by which one outcome is found, both are its number
-pub found-once : (work : PlainWork) (o p : ℕ) (x : WorkOutcome) → outcome_at work o ≡ Some x → outcome_at work p ≡ Some x → o ≡ p
-found-once work o p x h k = sym (found-number work.outcomes o x h) ∙ found-number work.outcomes p x k

@@ -125,8 +125,8 @@ entered work x n = without_unentered n (gone_through work n x (outcomes_at work 
 abbrev pub opening_outcome : PlainWork → Option WorkOutcome
 opening_outcome work = find (λ outcome. outcome.atom == work.first) work.outcomes
 
--- whether the first and the last atom are two, and are all that are left, and the first's only outcome, which is this
--- one, sends every agent to the last
+-- whether the first and the last atom are two and all that are left, the first has one outcome, and this outcome sends
+-- every agent to the last
 abbrev pub closes : PlainWork → WorkOutcome → Bool
 closes work x =
     (length work.atoms == 2)

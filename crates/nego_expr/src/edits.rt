@@ -116,6 +116,7 @@ impl Work {
         requires spare { length (outcomes_at self.old.plain n.0) ≤ self.old.spare_nodes }
         requires there { x.0 < length self.old.plain.nodes }
         ensures plain { self.new.plain ≡ then_each x.0 n.0 self.old.plain }
+        ensures spare { self.new.spare_nodes + length (outcomes_at self.old.plain n.0) ≡ self.old.spare_nodes }
         ensures kept { self.old.spare_outcomes ≤ self.new.spare_outcomes }
     {
         then_each(&mut self.nodes, &mut self.outcomes, x, n);
@@ -129,6 +130,7 @@ fn then_each(nodes: &mut Nodes, outcomes: &mut Reserved<Outcome>, x: NodeId, n: 
     requires older { All (λ z. z.node < length nodes.old.nodes) (map plain_outcome outcomes.old.items) }
     ensures nodes { nodes.new.nodes ≡ nodes.old.nodes ++ nodes_then x.0 (filter (λ z. z.atom == n.0) (map plain_outcome outcomes.old.items)) }
     ensures outcomes { map plain_outcome outcomes.new.items ≡ with_nodes_at n.0 (length nodes.old.nodes) (map plain_outcome outcomes.old.items) }
+    ensures spare { nodes.new.room + length (filter (λ z. z.atom == n.0) (map plain_outcome outcomes.old.items)) ≡ nodes.old.room }
     ensures room { outcomes.new.room ≡ outcomes.old.room }
 {
     for i in 0..outcomes.len() {

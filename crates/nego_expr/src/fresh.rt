@@ -22,7 +22,6 @@ impl Work {
     /// The work that a deterministic diagram begins as. Its outcomes keep their numbers, and each is its own
     /// expression.
     pub fn new(alloc: Global, d: &Diagram) -> Result<Work, WorkFault>
-        ensures ok { IfOk result (λ w. w.plain ≡ fresh_work d.now) }
         ensures fresh { IfOk result (λ w. IsFresh w.plain d.now) }
         ensures stands { IfOk result (λ w. StandsFor w.plain d.now) }
         ensures runs { IfOk result (λ w. HasTheRuns w.plain d.now) }

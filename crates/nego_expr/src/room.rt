@@ -8,7 +8,8 @@ use crate::{RuleFault, Work};
 const MAX_NODES: u32 = 20_000;
 
 impl Work {
-    /// Makes room for so many more nodes and outcomes. `Nodes` where there would be more nodes than a work has.
+    /// Makes room for so many more nodes and outcomes. `Nodes` where there would be more nodes than a work has. Numbers of
+    /// outcomes past 32 bits count as want of memory.
     pub fn room(&mut self, nodes: u32, outcomes: u32) -> Result<(), RuleFault>
         ensures plain { self.new.plain ≡ self.old.plain }
         ensures ok { OnOk result ((nodes ≤ self.new.spare_nodes) × (outcomes ≤ self.new.spare_outcomes)) }

@@ -1,6 +1,6 @@
 -- An iteration leaves a work, and keeps soundness and what the runs relate.
-use Rattle.std.proofs.Common.{◌≡◌, ◌≢◌, ◌↔◌, ⊎_elim, ℕ, ◌+◌, ◌<◌, Bool, false, not, ◌==◌, ◌&&◌, List, [], ◌∷◌, ◌++◌, length, slice_get, nat_lt, Option, Some, None, IsTrue, refl, sym, subst, ap, ◌∙◌, arith, ne_eqb, eqb-true, append_assoc}
-use Rattle.std.proofs.lemmas.Bool.{and_parts, and_from, cases_eq, eqb-false, false≢true, not-true, not_from_false, ltb-true, false_from_ne_true}
+use Rattle.std.proofs.Common.{◌≡◌, ◌≢◌, ◌↔◌, ⊎_elim, ℕ, ◌+◌, ◌<◌, Bool, false, not, ◌==◌, ◌&&◌, List, [], ◌∷◌, ◌++◌, length, slice_get, nat_lt, Some, IsTrue, refl, sym, subst, ap, ◌∙◌, arith, ne_eqb, append_assoc}
+use Rattle.std.proofs.lemmas.Bool.{and_parts, and_from, cases_eq, eqb-false, not-true, not_from_false, ltb-true, false_from_ne_true}
 use Rattle.std.proofs.lemmas.List.{length-append, length-map}
 use Rattle.std.proofs.lemmas.List.Elements.{All-nil, All-cons, All-weaker}
 use Rattle.std.specs.List.{All}
@@ -22,6 +22,7 @@ use Rattle.nego_expr.proofs.EditedWorks.{IsWithin, IsOutcomeOf, AreFurther, edit
 use Rattle.nego_expr.proofs.AddedNodes.{ByWork-kept, ByWork-added, length-nodes_then, node_then}
 use Rattle.nego_expr.proofs.WorkEdits.{numbers_of, with_node, All-found, rises-passing, numbers-without_outcome, passing-without_outcome, found-without_other, All-without_outcome}
 use Rattle.nego_expr.proofs.WorkForm.{outcome_found, found-atom, found_outcome, next-found, work-deterministic}
+use Rattle.nego_expr.proofs.Tests.{target_is}
 use Rattle.nego_expr.proofs.LocalWorks.{works_local}
 use Rattle.nego_iterate.specs.Law.{IteratingKeeps}
 use Rattle.nego_iterate.proofs.Iterates.{Iterates}
@@ -34,11 +35,6 @@ pub record MayRepeat (work : PlainWork) (x : WorkOutcome) : Type 0 where
   pub not_last : x.atom ≢ work.last
   pub back : (a : ℕ) → IsTrue (is_in a (work_parties work x.atom)) → sent_to x a ≡ Some x.atom
   pub another : 1 < length (outcomes_at work x.atom)
-
--- an agent's target that is this atom by the test is this atom
-target_is : (target : Option ℕ) (n : ℕ) → IsTrue (same_target target (Some n)) → target ≡ Some n
-target_is None n h = absurd (false≢true h)
-target_is (Some m) n h = ap Some (eqb-true m n h)
 
 -- what the guard says
 may_repeat : (work : PlainWork) (x : WorkOutcome) → outcome_at work x.number ≡ Some x → IsTrue (iterates work x) → MayRepeat work x

@@ -1,11 +1,11 @@
 -- A closing keeps soundness and what the runs relate: before it, the one outcome of the first atom sends everyone to the
 -- last atom; behind it, everyone is there from the beginning.
-use Rattle.std.proofs.Common.{◌≡◌, ◌≢◌, ◌⊎◌, ◌↔◌, inl, inr, ⊎_elim, ℕ, ◌+◌, ◌<◌, true, not, ◌==◌, ◌&&◌, List, [], ◌∷◌, length, slice_get, slice_index_or, Option, Some, None, IsTrue, refl, sym, subst, ap, ◌∙◌, arith, eqb-true, suc, Bool, false, cond, ap₂, ne_eqb, map}
-use Rattle.std.proofs.lemmas.Bool.{and_parts, and_from, lt-ltb, eqb-false, not-true, not_from_false, cond-true, cond-false, false≢true}
+use Rattle.std.proofs.Common.{◌≡◌, ◌≢◌, ◌⊎◌, ◌↔◌, inl, inr, ⊎_elim, ℕ, ◌+◌, ◌<◌, true, not, ◌==◌, ◌&&◌, List, [], ◌∷◌, length, slice_get, slice_index_or, Some, IsTrue, refl, sym, subst, ap, ◌∙◌, arith, eqb-true, Bool, false, ne_eqb, map}
+use Rattle.std.proofs.lemmas.Bool.{and_parts, and_from, lt-ltb, eqb-false, not-true, not_from_false}
 use Rattle.std.proofs.lemmas.Option.{none-some, same_Some}
 use Rattle.std.proofs.lemmas.List.{length-append, length-map}
-use Rattle.std.proofs.lemmas.List.Elements.{All-head, All-tail, All-filter, filter_passes}
-use Rattle.std.specs.List.{All, filter, find, range_with_len}
+use Rattle.std.proofs.lemmas.List.Elements.{All-head, All-filter, filter_passes}
+use Rattle.std.specs.List.{All, filter, range_with_len}
 use Rattle.std.specs.Option.{option_map_or, option_to_list}
 use Rattle.nego_base.specs.Members.{is_in}
 use Rattle.nego_model.specs.Negotiation.{Negotiation}
@@ -31,31 +31,9 @@ use Rattle.nego_expr.proofs.EditCalls.{allowed_at}
 use Rattle.nego_expr.proofs.EditedWorks.{IsWithin, IsOutcomeOf, outcomes_of_work, then_each_work, is_in-left, outcomes-left, found_left, without_atom_work}
 use Rattle.nego_expr.proofs.NodesAt.{of_atom, passing-with_nodes_at, found-nodes_at}
 use Rattle.nego_expr.proofs.WorkEdits.{numbers_of, with_node, filter-within, atoms-filter}
+use Rattle.nego_expr.proofs.Tests.{target_is, only_passing}
 use Rattle.nego_expr.proofs.WorkForm.{OutcomeFits, outcome_found, next-found, work-deterministic, fits_from_work}
 use Rattle.nego_shortcut.specs.Law.{ClosingKeeps}
-
--- where one passes a test and is found, it is the only one
-only_found : (test : WorkOutcome → Bool) (zs : List WorkOutcome) (x : WorkOutcome) → find test zs ≡ Some x → length (filter test zs) ≡ 1 → filter test zs ≡ x ∷ []
-only_found test [] x h l = absurd (none-some x h)
-only_found test (z ∷ zs) x h l = go (test z) refl h l (only_found test zs x)
-  where
-    single : (ys : List WorkOutcome) → suc (length ys) ≡ 1 → ys ≡ []
-    single [] e = refl
-    single (y ∷ ys) e = absurd (let no_more : ⊥ = omega (arith, e) in no_more)
-
-    go : (b : Bool) → test z ≡ b → find test (z ∷ zs) ≡ Some x → length (cond b (z ∷ filter test zs) (filter test zs)) ≡ 1 → (find test zs ≡ Some x → length (filter test zs) ≡ 1 → filter test zs ≡ x ∷ []) →
-        cond b (z ∷ filter test zs) (filter test zs) ≡ x ∷ []
-    go true e f m more = ap₂ ◌∷◌ (same_Some z x (sym (cond-true (test z) (Some z) (find test zs) e) ∙ f)) (single (filter test zs) m)
-    go false e f m more = more (sym (cond-false (test z) (Some z) (find test zs) e) ∙ f) m
-
--- what holds of each holds of the one that is found
-pub find_all : (P : WorkOutcome → Type 0) (test : WorkOutcome → Bool) (zs : List WorkOutcome) (x : WorkOutcome) → find test zs ≡ Some x → All P zs → P x
-find_all P test [] x h k = absurd (none-some x h)
-find_all P test (z ∷ zs) x h k = go (test z) h (find_all P test zs x)
-  where
-    go : (b : Bool) → cond b (Some z) (find test zs) ≡ Some x → (find test zs ≡ Some x → All P zs → P x) → P x
-    go true f more = subst P (same_Some z x f) (All-head P z zs k)
-    go false f more = more f (All-tail P z zs k)
 
 -- exactly the first and the last atom are left, and the first has one outcome, which sends everyone to the last
 pub record Closes (work : PlainWork) (x : WorkOutcome) : Type 0 where
@@ -63,11 +41,6 @@ pub record Closes (work : PlainWork) (x : WorkOutcome) : Type 0 where
   pub apart : work.first ≢ work.last
   pub only : outcomes_at work work.first ≡ x ∷ []
   pub sends : (a : ℕ) → a < work.agents → sent_to x a ≡ Some work.last
-
--- an agent's target that is this atom by the test is this atom
-target_is : (target : Option ℕ) (n : ℕ) → IsTrue (same_target target (Some n)) → target ≡ Some n
-target_is None n h = absurd (false≢true h)
-target_is (Some m) n h = ap Some (eqb-true m n h)
 
 -- of two numbers in a list of two, which differ, one is any third
 pub one_of_two : (xs : List ℕ) (a b n : ℕ) → length xs ≡ 2 → a ≢ b → IsTrue (is_in a xs) → IsTrue (is_in b xs) → IsTrue (is_in n xs) → (n ≡ a) ⊎ (n ≡ b)
@@ -310,7 +283,7 @@ pub closes_parts : (work : PlainWork) (x : WorkOutcome) → opening_outcome work
 closes_parts work x found h = record {
   two = eqb-true (length work.atoms) 2 p.0;
   apart = eqb-false work.first work.last (not-true (work.first == work.last) q.0);
-  only = only_found (λ z. z.atom == work.first) work.outcomes x found (eqb-true (length (outcomes_at work work.first)) 1 r.0);
+  only = only_passing (λ z. z.atom == work.first) work.outcomes x found (eqb-true (length (outcomes_at work work.first)) 1 r.0);
   sends = λ a l. target_is (sent_to x a) work.last (all_at (λ b. same_target (sent_to x b) (Some work.last)) (range_with_len 0 work.agents) a r.1 (is_in-range_zero a work.agents ∙ lt-ltb a work.agents l));
 }
   where

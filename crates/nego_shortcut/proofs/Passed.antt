@@ -1,7 +1,7 @@
 -- An outcome becomes itself and then each outcome of the atom that it enters, place by place.
-use Rattle.std.proofs.Common.{◌≡◌, ◌≢◌, ◌⊎◌, inl, inr, ⊎_elim, ℕ, zero, suc, ◌+◌, ◌<◌, ◌≤◌, Bool, true, false, ◌==◌, cond, List, [], ◌∷◌, ◌++◌, length, map, slice_get, option_map, Option, Some, None, IsTrue, refl, sym, subst, ap, ap₂, ◌∙◌, arith, append-nil, append_assoc, add-zero, eq-eqb, ne_eqb}
+use Rattle.std.proofs.Common.{◌≡◌, ◌≢◌, ◌⊎◌, inl, inr, ⊎_elim, ℕ, suc, ◌+◌, ◌<◌, ◌≤◌, Bool, true, false, ◌==◌, cond, List, [], ◌∷◌, ◌++◌, length, map, slice_get, option_map, Option, Some, None, IsTrue, refl, sym, subst, ap, ap₂, ◌∙◌, arith, append-nil, append_assoc, add-zero, eq-eqb, ne_eqb}
 use Rattle.std.proofs.lemmas.Bool.{cond-true, cond-false, cases_eq}
-use Rattle.std.proofs.lemmas.Option.{none-some, same_Some, slice_get-map}
+use Rattle.std.proofs.lemmas.Option.{same_Some, slice_get-map}
 use Rattle.std.proofs.lemmas.List.{length-append, length-map}
 use Rattle.std.specs.List.{All}
 use Rattle.nego_base.specs.Members.{is_in, with_member}
@@ -10,45 +10,13 @@ use Rattle.nego_expr.specs.Work.{WorkOutcome, PlainWork, IsWork, outcome_at, out
 use Rattle.nego_expr.specs.Edits.{with_outcome, nodes_then}
 use Rattle.nego_expr.specs.Use.{targets_through, through, through_from, gone_through}
 use Rattle.nego_expr.proofs.AddedNodes.{length-nodes_then}
-use Rattle.nego_expr.proofs.NodesAt.{of_atom, own_of, other_of}
+use Rattle.nego_expr.proofs.NodesAt.{of_atom, own_of, other_of, of_atom-push, of_atom-pass, nodes_then-push}
 use Rattle.nego_expr.proofs.WorkEdits.{All-at_place, All-found, found-number, there_found, found-before, found-with_outcome}
 use Rattle.nego_expr.proofs.WorkForm.{OutcomeFits, fits_from_work}
 use Rattle.nego_expr.proofs.Places.{found-place}
+use Rattle.nego_expr.proofs.Tests.{before_append, at_between}
 use Rattle.nego_shortcut.specs.Passing.{MayPass, passed_one}
 use Rattle.nego_shortcut.proofs.ShortWorks.{IsEntry}
-
--- ---- lists
-
--- an item of two lists, one after the other, is one of the first
-before_append : {A : Type 0} (xs more : List A) (i : ℕ) (x : A) → slice_get xs i ≡ Some x → slice_get (xs ++ more) i ≡ Some x
-before_append [] more i x h = absurd (none-some x h)
-before_append (y ∷ ys) more zero x h = h
-before_append (y ∷ ys) more (suc i) x h = before_append ys more i x h
-
--- the item between two lists
-at_between : {A : Type 0} (front rest : List A) (y : A) → slice_get (front ++ y ∷ rest) (length front) ≡ Some y
-at_between [] rest y = refl
-at_between (z ∷ front) rest y = at_between front rest y
-
--- one outcome more is of the atom, or isn't
-of_atom-push : (n : ℕ) (zs : List WorkOutcome) (y : WorkOutcome) → y.atom ≡ n → of_atom n (zs ++ y ∷ []) ≡ of_atom n zs ++ y ∷ []
-of_atom-push n [] y e = own_of n y [] e
-of_atom-push n (z ∷ zs) y e = ⊎_elim
-    (λ k. own_of n z (zs ++ y ∷ []) k ∙ (ap (◌∷◌ z) (of_atom-push n zs y e) ∙ ap (λ ws. ws ++ y ∷ []) (sym (own_of n z zs k))))
-    (λ k. other_of n z (zs ++ y ∷ []) k ∙ (of_atom-push n zs y e ∙ ap (λ ws. ws ++ y ∷ []) (sym (other_of n z zs k))))
-    (cases_eq z.atom n)
-
-of_atom-pass : (n : ℕ) (zs : List WorkOutcome) (y : WorkOutcome) → y.atom ≢ n → of_atom n (zs ++ y ∷ []) ≡ of_atom n zs
-of_atom-pass n [] y e = other_of n y [] e
-of_atom-pass n (z ∷ zs) y e = ⊎_elim
-    (λ k. own_of n z (zs ++ y ∷ []) k ∙ (ap (◌∷◌ z) (of_atom-pass n zs y e) ∙ sym (own_of n z zs k)))
-    (λ k. other_of n z (zs ++ y ∷ []) k ∙ (of_atom-pass n zs y e ∙ sym (other_of n z zs k)))
-    (cases_eq z.atom n)
-
--- a node for one outcome more
-nodes_then-push : (x : ℕ) (zs : List WorkOutcome) (y : WorkOutcome) → nodes_then x (zs ++ y ∷ []) ≡ nodes_then x zs ++ Then x y.node ∷ []
-nodes_then-push x [] y = refl
-nodes_then-push x (z ∷ zs) y = ap (◌∷◌ (Then x z.node)) (nodes_then-push x zs y)
 
 module _ (from : PlainWork) (n : ℕ) (x : WorkOutcome) where
   -- one outcome more with the next number and node

@@ -3,8 +3,8 @@
 use Rattle.std.proofs.Common.{◌≡◌, ◌≢◌, ◌⊎◌, inl, inr, ⊎_elim, ℕ, zero, suc, ◌+◌, ◌<◌, ◌≤◌, Bool, true, false, not, ◌==◌, ◌&&◌, cond, if◌then◌else◌, List, [], ◌∷◌, ◌++◌, length, map, slice_get, Option, Some, None, IsTrue, refl, sym, subst, ap, ◌∙◌, arith, eq-eqb, ne_eqb, eqb-true, add-zero, append-nil}
 use Rattle.std.proofs.lemmas.Bool.{and_parts, cond-true, cond-false, cases_eq, eqb-false, not-true}
 use Rattle.std.proofs.lemmas.Option.{none-some, same_Some}
-use Rattle.std.proofs.lemmas.List.{length-append, length-map, map-append}
-use Rattle.std.proofs.lemmas.List.Elements.{All-nil, All-cons, All-head, All-tail, All-weaker, All-filter, All-append, All-map, filter-append, filter_passes}
+use Rattle.std.proofs.lemmas.List.{map-append}
+use Rattle.std.proofs.lemmas.List.Elements.{All-nil, All-cons, All-weaker, All-filter, All-append, All-map, filter-append, filter_passes}
 use Rattle.std.proofs.lemmas.List.FromFn.{length-map-range_with_len, get_or-map-range_with_len}
 use Rattle.std.specs.List.{All, filter, list_all}
 use Rattle.nego_base.specs.Members.{is_in, all_in, RisesFrom, IsRising}
@@ -16,7 +16,7 @@ use Rattle.nego_expr.proofs.Alive.{outcome_among_later, each_found}
 use Rattle.nego_expr.proofs.NodesAt.{found-nodes_at}
 use Rattle.nego_expr.proofs.WorkEdits.{numbers_of, All-at_place, All-found, found_cases, found-number, found_there, there_found, none_found, rises-passing, found-before, found-behind, numbers-with_outcome, passing-with_outcome, found-with_outcome, found-with_other, All-with_outcome}
 use Rattle.nego_expr.proofs.WorkForm.{outcome_found, found_outcome}
-use Rattle.nego_shortcut.proofs.Unentered.{target_is}
+use Rattle.nego_expr.proofs.Tests.{target_is, filter-none}
 
 -- An alive outcome enters an atom, which is neither its own nor the first nor the last: the atom's parties are parties of
 -- the outcome's, and it sends each of them there.
@@ -94,12 +94,6 @@ made_number-place low o next (y ∷ ys) (suc k) z h e =
     let q = made_from-place (y.number + 1) next ys k z h.1 e in
     let above : y.number + 1 ≤ z.number = q.0 in
     cond-false (y.number == z.number) o (made_from next ys z.number) (ne_eqb y.number z.number (λ f. let no_more : ⊥ = omega (arith, above, f) in no_more)) ∙ q.1
-
--- where none passes a test, none is left
-filter-none : (test : WorkOutcome → Bool) (zs : List WorkOutcome) → All (λ z. test z ≡ false) zs → filter test zs ≡ []
-filter-none test [] h = refl
-filter-none test (z ∷ zs) h =
-    cond-false (test z) (z ∷ filter test zs) (filter test zs) (All-head (λ w. test w ≡ false) z zs h) ∙ filter-none test zs (All-tail (λ w. test w ≡ false) z zs h)
 
 -- ---- the outcomes with new numbers
 
@@ -301,11 +295,3 @@ module _ (work : PlainWork) (n : ℕ) (x y : WorkOutcome) (ys : List WorkOutcome
 
       same : All Same work.outcomes
       same = All-weaker (λ z. outcome_at work z.number ≡ Some z) Same (λ z h e. ap (λ w. w.atom == p) (same_Some z x (sym h ∙ (ap (outcome_at work) e ∙ entry.alive)))) work.outcomes (each_found work.outcomes ok.numbers_rise)
-
-  -- as many outcomes are there as there were, and one for each of the entered atom's but one
-  pub length-entered : length (gone_through work n x (y ∷ ys)).outcomes + 1 ≡ length work.outcomes + length (y ∷ ys)
-  length-entered =
-      let l : length (changed_outcomes ++ more) ≡ length changed_outcomes + length more = length-append changed_outcomes more in
-      let c : length changed_outcomes ≡ length work.outcomes = length-map work.outcomes (λ z. cond (z.number == changed.number) changed z) in
-      let m : length more ≡ length ys = length-through_from work n x work.numbers (length work.nodes + 1) ys in
-      omega (arith, l, c, m)

@@ -1,44 +1,17 @@
 -- An atom to which no outcome of another leads: a work without it is a work, and all else is as it was.
-use Rattle.std.proofs.Common.{◌≡◌, ◌≢◌, ⊎_elim, ℕ, zero, suc, Bool, true, false, not, ◌==◌, ◌&&◌, cond, List, [], ◌∷◌, map, slice_get, slice_index_or, Option, Some, None, IsTrue, refl, sym, subst, ap, ◌∙◌, eq-eqb, ne_eqb, eqb-true}
-use Rattle.std.proofs.lemmas.Bool.{and_parts, and_cases, or_cases, or_parts, cond-true, cond-false, eqb-false, false≢true, true≢false, not-true, not_from_false}
+use Rattle.std.proofs.Common.{◌≡◌, ◌≢◌, ⊎_elim, ℕ, zero, suc, Bool, true, false, not, ◌==◌, ◌&&◌, cond, List, [], ◌∷◌, map, slice_get, slice_index_or, Option, Some, None, IsTrue, refl, sym, subst, ◌∙◌, eq-eqb, ne_eqb}
+use Rattle.std.proofs.lemmas.Bool.{and_parts, and_cases, or_cases, or_parts, eqb-false, false≢true, true≢false, not-true, not_from_false}
 use Rattle.std.proofs.lemmas.Option.{none-some}
-use Rattle.std.proofs.lemmas.List.Elements.{All-nil, All-cons, All-weaker}
-use Rattle.std.specs.List.{All, filter, list_any}
+use Rattle.std.proofs.lemmas.List.Elements.{All-weaker}
+use Rattle.std.specs.List.{All, list_any}
 use Rattle.nego_base.specs.Members.{is_in}
 use Rattle.nego_expr.specs.Work.{WorkOutcome, PlainWork, outcome_at, work_parties, work_outcomes, sent_to, IsWork}
 use Rattle.nego_expr.specs.Use.{same_target, is_entered, without_unentered, leads_to}
 use Rattle.nego_expr.specs.Edits.{without_atom}
 use Rattle.nego_expr.proofs.EditedWorks.{is_in-left, is_in_left, parties-left, outcomes-left, found-left, found_left, without_atom_work}
 use Rattle.nego_expr.proofs.Places.{found-place}
+use Rattle.nego_expr.proofs.Tests.{target_is, some_any, none_any}
 use Rattle.nego_expr.proofs.WorkEdits.{All-found}
-
--- an agent's target that is this atom by the test is this atom
-pub target_is : (target : Option ℕ) (n : ℕ) → IsTrue (same_target target (Some n)) → target ≡ Some n
-target_is None n h = absurd (false≢true h)
-target_is (Some m) n h = ap Some (eqb-true m n h)
-
--- ---- what a test finds in a list
-
--- an item that passes stands at a place
-some_any : {A : Type 0} (p : A → Bool) (xs : List A) → list_any p xs ≡ true → (k : ℕ) × (x : A) × (slice_get xs k ≡ Some x) × (p x ≡ true)
-some_any p [] h = absurd (false≢true h)
-some_any p (x ∷ xs) h = ⊎_elim (λ e. (0, x, refl, e)) (λ m. let q = some_any p xs m in (suc q.0, q.1, q.2, q.3)) (or_cases (p x) (list_any p xs) h)
-
--- where none is found, none passes
-none_any : {A : Type 0} (p : A → Bool) (xs : List A) → list_any p xs ≡ false → All (λ x. p x ≡ false) xs
-none_any p [] h = All-nil (λ x. p x ≡ false)
-none_any p (x ∷ xs) h = let k = or_parts (p x) (list_any p xs) h in All-cons (λ y. p y ≡ false) x xs k.0 (none_any p xs k.1)
-
--- those that pass a test, of those that pass a wider one, are all of them
-filter-within : (p q : WorkOutcome → Bool) → ((z : WorkOutcome) → p z ≡ true → q z ≡ true) → (zs : List WorkOutcome) → filter p (filter q zs) ≡ filter p zs
-filter-within p q h [] = refl
-filter-within p q h (y ∷ ys) = go (p y) (q y) refl refl (filter-within p q h ys)
-  where
-    go : (b t : Bool) → p y ≡ b → q y ≡ t → filter p (filter q ys) ≡ filter p ys → filter p (cond t (y ∷ filter q ys) (filter q ys)) ≡ cond b (y ∷ filter p ys) (filter p ys)
-    go true true e f k = cond-true (p y) (y ∷ filter p (filter q ys)) (filter p (filter q ys)) e ∙ ap (◌∷◌ y) k
-    go true false e f k = absurd (true≢false (sym (h y e) ∙ f))
-    go false true e f k = cond-false (p y) (y ∷ filter p (filter q ys)) (filter p (filter q ys)) e ∙ k
-    go false false e f k = k
 
 -- ---- who is led to the atom
 

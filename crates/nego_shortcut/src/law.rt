@@ -7,8 +7,9 @@ pub fn shortcuts_keep()
     ensures { ShortcutsKeep }
 {}
 
-/// For every work, of any number of agents, any sizes of data and any tables: an allowed closing leaves a work that is
-/// sound exactly where this one is, and whose complete runs relate the same data.
+/// For every work, of any number of agents, and all sizes of data: an allowed closing leaves a work that is sound exactly
+/// where this one is. Its complete runs relate the same data, whatever the tables, as long as each outcome that was read
+/// acts on the parties of its atom alone.
 pub fn closing_keeps()
     ensures { ClosingKeeps }
 {}

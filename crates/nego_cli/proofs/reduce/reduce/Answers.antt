@@ -10,13 +10,13 @@ use Rattle.nego_cli.proofs.reduce.reduce.Goals as goal
 
 pub reduce_work-requires-clause-narrow : goal.reduce_work-requires-clause-narrow
 reduce_work-requires-clause-narrow c =
-    subst IsNarrow (sym c.in-Ok.ensures.ok) (narrow_fresh c.args.d (c.is_narrow.ensures.value.0 c.if-not-is_narrow.false) c.is_narrow.ensures.limits.few_outcomes)
+    subst IsNarrow (sym c.in-Ok.ensures.fresh.fresh) (narrow_fresh c.args.d (c.is_narrow.ensures.value.0 c.if-not-is_narrow.false) c.is_narrow.ensures.limits.few_outcomes)
 
 pub returns-clause-ok : goal.returns-clause-ok
 returns-clause-ok c =
     let d = c.args.d in
     let work = c.in-Ok.work.plain in
-    let fresh : work ≡ fresh_work d = c.in-Ok.ensures.ok in
+    let fresh : work ≡ fresh_work d = c.in-Ok.ensures.fresh.fresh in
     let uses = map plain_use c.in_ok-reduction.reduction.uses in
     let summary = plain_summary c.in_ok-reduction.reduction.summary in
     let reduces : Reduces work uses summary = c.in_ok-reduction.ensures in (

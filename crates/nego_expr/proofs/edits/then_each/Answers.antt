@@ -26,6 +26,9 @@ module _ (c : After-is_at) where
   abbrev outcomes' : List WorkOutcome
   outcomes' = with_nodes_at n (length c.args.nodes.now.nodes) (map plain_outcome c.args.outcomes.now.items)
 
+  abbrev room' : ℕ
+  room' = c.args.nodes.now.room - length (of_atom n (map plain_outcome c.args.outcomes.now.items))
+
   abbrev nodes : List PlainNode
   nodes = c.loop-i.nodes.nodes
 
@@ -37,7 +40,7 @@ module _ (c : After-is_at) where
   here =
       let many = c.loop-i.invariant.as_many in
       let seen = length-map c.loop-i.outcomes.items plain_outcome in
-      let k = next_of x n nodes' outcomes' c.loop-i.i nodes outcomes c.loop-i.nodes.room c.loop-i.invariant.up_to (omega (arith, c.loop-i-test.true, c.len-i-end.ensures, many, seen)) in
+      let k = next_of x n nodes' outcomes' room' c.loop-i.i nodes outcomes c.loop-i.nodes.room c.loop-i.invariant.up_to (omega (arith, c.loop-i-test.true, c.len-i-end.ensures, many, seen)) in
       (k.0, k.3)
 
   -- it is of the atom where the test says so
@@ -47,13 +50,13 @@ module _ (c : After-is_at) where
 
   -- the next outcome is to come
   abbrev UpTo : List PlainNode → List WorkOutcome → ℕ → Type 0
-  UpTo ns os room = IsUpTo x n nodes' outcomes' (c.loop-i.i + 1) ns os room
+  UpTo ns os room = IsUpTo x n nodes' outcomes' room' (c.loop-i.i + 1) ns os room
 
 pub then_at-requires-clause-spare : goal.then_at-requires-clause-spare
 then_at-requires-clause-spare c =
     let b = (goal.at.then_at-requires-clause-spare c).After-is_at in
     let k = here b in
-    own_room (x b) (n b) (nodes' b) (outcomes' b) c.loop-i.i (nodes b) (outcomes b) c.loop-i.nodes.room c.loop-i.invariant.up_to k.0 k.1 (eqb-true k.0.atom (n b) (tested b ∙ c.if-is_at.true))
+    own_room (x b) (n b) (nodes' b) (outcomes' b) (room' b) c.loop-i.i (nodes b) (outcomes b) c.loop-i.nodes.room c.loop-i.invariant.up_to k.0 k.1 (eqb-true k.0.atom (n b) (tested b ∙ c.if-is_at.true))
 
 pub loop-i-preserved : goal.loop-i-preserved
 loop-i-preserved c =
@@ -63,7 +66,7 @@ loop-i-preserved c =
     let as_many = c.loop-i.invariant.as_many in
     elim c.if-is_at.branch [
       | then-is_at w ↦
-          let own = own_done (x b) (n b) (nodes' b) (outcomes' b) c.loop-i.i (nodes b) (outcomes b) c.loop-i.nodes.room h k.0 k.1 (eqb-true k.0.atom (n b) (tested b ∙ w.if-is_at.true)) in
+          let own = own_done (x b) (n b) (nodes' b) (outcomes' b) (room' b) c.loop-i.i (nodes b) (outcomes b) c.loop-i.nodes.room h k.0 k.1 (eqb-true k.0.atom (n b) (tested b ∙ w.if-is_at.true)) in
           let made = same_Some (nodes b ++ Then (x b) k.0.node ∷ []) w.then_at.new.nodes.nodes (ap (option_map (λ y. nodes b ++ Then (x b) y.node ∷ [])) (sym k.1) ∙ w.then_at.ensures.nodes) in
           let put = same_Some (slice_set (outcomes b) c.loop-i.i (with_node (length (nodes b)) k.0)) (map plain_outcome w.then_at.new.outcomes.items)
           (ap (option_map (λ y. slice_set (outcomes b) c.loop-i.i (with_node (length (nodes b)) y))) (sym k.1) ∙ w.then_at.ensures.outcomes) in
@@ -75,6 +78,6 @@ loop-i-preserved c =
           ∙ (length-map c.loop-i.outcomes.items plain_outcome ∙ as_many))) in
           rw (w.nodes-is, w.outcomes-is) (record { up_to = up_to; as_many = many; room = w.then_at.ensures.room ∙ c.loop-i.invariant.room })
       | else-is_at w ↦
-          let other = other_done (x b) (n b) (nodes' b) (outcomes' b) c.loop-i.i (nodes b) (outcomes b) c.loop-i.nodes.room h k.0 k.1 (eqb-false k.0.atom (n b) (tested b ∙ w.if-is_at.false)) in
+          let other = other_done (x b) (n b) (nodes' b) (outcomes' b) (room' b) c.loop-i.i (nodes b) (outcomes b) c.loop-i.nodes.room h k.0 k.1 (eqb-false k.0.atom (n b) (tested b ∙ w.if-is_at.false)) in
           rw (w.nodes-is, w.outcomes-is) (record { up_to = other; as_many = as_many; room = c.loop-i.invariant.room })
     ]
