@@ -5,7 +5,7 @@ use Rattle.std.proofs.lemmas.Option.{none-some, same_Some, slice_get_within, get
 use Rattle.std.proofs.lemmas.List.{length-append}
 use Rattle.std.proofs.lemmas.List.Elements.{All-nil, All-cons, All-head, All-tail, All-weaker, All-get_or}
 use Rattle.std.specs.List.{All}
-use Rattle.nego_model.specs.Joining.{Relation, RelationTest, By}
+use Rattle.nego_model.specs.Joining.{RelationTest, By}
 use Rattle.nego_model.specs.Expression.{PlainNode, Base, Join, Then, Star, children, IsNodeList, NodeMeans, Means, NodeBases, EachBase}
 use Rattle.nego_model.proofs.expressions.Nodes.{Means-append, Means-at, EachBase-older, EachBase-newest, split_at}
 use Rattle.nego_expr.specs.Work.{WorkOutcome, PlainWork, outcome_at, ByWork}

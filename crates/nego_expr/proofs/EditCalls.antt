@@ -1,5 +1,5 @@
 -- Laws of the edit calls: what they make of the alive outcomes, in the words of the effects of the rules.
-use Rattle.std.proofs.Common.{◌≡◌, ℕ, List, option_map, Option, Some, None, is_some, true, false, refl, sym, ap, ◌∙◌, rules, Bool, IsTrue, subst}
+use Rattle.std.proofs.Common.{◌≡◌, ℕ, List, Option, Some, None, is_some, false, refl, sym, ap, ◌∙◌, rules, Bool, IsTrue, subst}
 use Rattle.std.proofs.lemmas.Bool.{false≢true}
 use Rattle.std.proofs.lemmas.Option.{none-some, same_Some}
 use Rattle.std.proofs.lemmas.List.Elements.{All-weaker}

@@ -17,8 +17,8 @@ pub mod NodesAt
 pub mod OneAtomLeft
 pub mod Places
 pub mod Printing
+pub mod Searching
 pub mod Seen
-pub mod Tests
 pub mod ThenEach
 pub mod UsableWorks
 pub mod WorkEdits

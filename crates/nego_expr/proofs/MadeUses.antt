@@ -1,5 +1,5 @@
 -- The contract of a use of a rule, from what its parts answer.
-use Rattle.std.proofs.Common.{◌≡◌, ◌≢◌, ◌↔◌, ℕ, ◌+◌, ◌<◌, false, length, Result, Ok, Err, IsTrue, refl, sym, subst, ◌∙◌}
+use Rattle.std.proofs.Common.{◌≡◌, ◌≢◌, ◌↔◌, ℕ, ◌+◌, ◌<◌, length, Result, Ok, Err, IsTrue, sym, subst, ◌∙◌}
 use Rattle.std.proofs.lemmas.Bool.{true≢false}
 use Rattle.nego_expr.specs.declared.uses.RuleFault.{RuleFault}
 use Rattle.nego_expr.specs.declared.uses.RuleFault.TheVariants.{Guard, Nodes}

@@ -9,7 +9,7 @@ use Rattle.nego_expr.specs.Work.{WorkOutcome}
 use Rattle.nego_expr.specs.Edits.{nodes_then, with_nodes_at}
 use Rattle.nego_expr.proofs.WorkEdits.{with_node}
 use Rattle.nego_expr.proofs.NodesAt.{of_atom, own_of, other_of, own_first, other_first}
-use Rattle.nego_expr.proofs.Tests.{at_between}
+use Rattle.nego_expr.proofs.Searching.{at_between}
 
 set_between : {A : Type 0} (front rest : List A) (y z : A) → set (front ++ y ∷ rest) (length front) z ≡ front ++ z ∷ rest
 set_between [] rest y z = refl

@@ -9,7 +9,7 @@ use Rattle.nego_model.specs.Negotiation.{Negotiation, IsNegotiation, IsDetermini
 use Rattle.nego_base.proofs.Members.{is_in_single, is_in_none, is_in-head}
 use Rattle.nego_expr.specs.Work.{WorkOutcome, PlainWork, outcome_at, work_parties, work_outcomes, sent_to, negotiation_of_work, IsWork}
 use Rattle.nego_expr.proofs.Alive.{each_found}
-use Rattle.nego_expr.proofs.WorkEdits.{numbers_of, All-found, found-number, passing_at, found_passing, rises-passing}
+use Rattle.nego_expr.proofs.WorkEdits.{numbers_of, All-found, passing_at, found_passing, rises-passing}
 
 -- an agent's target as the list of its next atoms is one at most
 pub is_in-target : (target : Option ℕ) (m : ℕ) → IsTrue (is_in m (option_to_list target)) → target ≡ Some m

@@ -22,7 +22,7 @@ use Rattle.nego_expr.proofs.EditedWorks.{IsWithin, IsOutcomeOf, AreFurther, edit
 use Rattle.nego_expr.proofs.AddedNodes.{ByWork-kept, ByWork-added, length-nodes_then, node_then}
 use Rattle.nego_expr.proofs.WorkEdits.{numbers_of, with_node, All-found, rises-passing, numbers-without_outcome, passing-without_outcome, found-without_other, All-without_outcome}
 use Rattle.nego_expr.proofs.WorkForm.{outcome_found, found-atom, found_outcome, next-found, work-deterministic}
-use Rattle.nego_expr.proofs.Tests.{target_is}
+use Rattle.nego_expr.proofs.Searching.{target_is}
 use Rattle.nego_expr.proofs.LocalWorks.{works_local}
 use Rattle.nego_iterate.specs.Law.{IteratingKeeps}
 use Rattle.nego_iterate.proofs.Iterates.{Iterates}

@@ -31,7 +31,7 @@ use Rattle.nego_expr.proofs.EditCalls.{allowed_at}
 use Rattle.nego_expr.proofs.EditedWorks.{IsWithin, IsOutcomeOf, outcomes_of_work, then_each_work, is_in-left, outcomes-left, found_left, without_atom_work}
 use Rattle.nego_expr.proofs.NodesAt.{of_atom, passing-with_nodes_at, found-nodes_at}
 use Rattle.nego_expr.proofs.WorkEdits.{numbers_of, with_node, filter-within, atoms-filter}
-use Rattle.nego_expr.proofs.Tests.{target_is, only_passing}
+use Rattle.nego_expr.proofs.Searching.{target_is, only_passing}
 use Rattle.nego_expr.proofs.WorkForm.{OutcomeFits, outcome_found, next-found, work-deterministic, fits_from_work}
 use Rattle.nego_shortcut.specs.Law.{ClosingKeeps}
 

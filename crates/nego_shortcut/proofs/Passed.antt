@@ -14,7 +14,7 @@ use Rattle.nego_expr.proofs.NodesAt.{of_atom, own_of, other_of, of_atom-push, of
 use Rattle.nego_expr.proofs.WorkEdits.{All-at_place, All-found, found-number, there_found, found-before, found-with_outcome}
 use Rattle.nego_expr.proofs.WorkForm.{OutcomeFits, fits_from_work}
 use Rattle.nego_expr.proofs.Places.{found-place}
-use Rattle.nego_expr.proofs.Tests.{before_append, at_between}
+use Rattle.nego_expr.proofs.Searching.{before_append, at_between}
 use Rattle.nego_shortcut.specs.Passing.{MayPass, passed_one}
 use Rattle.nego_shortcut.proofs.ShortWorks.{IsEntry}
 

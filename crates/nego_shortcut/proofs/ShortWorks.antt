@@ -16,7 +16,7 @@ use Rattle.nego_expr.proofs.Alive.{outcome_among_later, each_found}
 use Rattle.nego_expr.proofs.NodesAt.{found-nodes_at}
 use Rattle.nego_expr.proofs.WorkEdits.{numbers_of, All-at_place, All-found, found_cases, found-number, found_there, there_found, none_found, rises-passing, found-before, found-behind, numbers-with_outcome, passing-with_outcome, found-with_outcome, found-with_other, All-with_outcome}
 use Rattle.nego_expr.proofs.WorkForm.{outcome_found, found_outcome}
-use Rattle.nego_expr.proofs.Tests.{target_is, filter-none}
+use Rattle.nego_expr.proofs.Searching.{target_is, filter-none}
 
 -- An alive outcome enters an atom, which is neither its own nor the first nor the last: the atom's parties are parties of
 -- the outcome's, and it sends each of them there.

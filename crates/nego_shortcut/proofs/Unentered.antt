@@ -10,7 +10,7 @@ use Rattle.nego_expr.specs.Use.{same_target, is_entered, without_unentered, lead
 use Rattle.nego_expr.specs.Edits.{without_atom}
 use Rattle.nego_expr.proofs.EditedWorks.{is_in-left, is_in_left, parties-left, outcomes-left, found-left, found_left, without_atom_work}
 use Rattle.nego_expr.proofs.Places.{found-place}
-use Rattle.nego_expr.proofs.Tests.{target_is, some_any, none_any}
+use Rattle.nego_expr.proofs.Searching.{target_is, some_any, none_any}
 use Rattle.nego_expr.proofs.WorkEdits.{All-found}
 
 -- ---- who is led to the atom

@@ -4,7 +4,7 @@ use Rattle.nego_expr.specs.Work.{outcomes_at}
 use Rattle.nego_expr.specs.Use.{Close, closed, after_use}
 use Rattle.nego_expr.specs.WorkView.{plain_outcome}
 use Rattle.nego_expr.proofs.MadeUses.{refused_room, made_use}
-use Rattle.nego_expr.proofs.Tests.{find_all}
+use Rattle.nego_expr.proofs.Searching.{find_all}
 use Rattle.nego_shortcut.proofs.CloseKeeps.{Closes, closes_parts, closed-one, closes-one, nodes-closed, closing}
 use Rattle.nego_shortcut.proofs.closing.close.Goals as goal
 use Rattle.nego_shortcut.proofs.closing.close.Goals.{After-count_of}
