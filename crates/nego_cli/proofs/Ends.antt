@@ -1,5 +1,5 @@
 -- How a call ends: what its status says, and that each cause has its answer.
-use Rattle.std.proofs.Common.{◌≡◌, ◌⊎◌, ◌∙◌, inl, inr, ℕ, List, [], length, Some, None, Result, Ok, Err, refl, sym, ap, subst}
+use Rattle.std.proofs.Common.{◌≡◌, ◌⊎◌, ◌∙◌, inl, inr, ℕ, ◌<◌, List, [], length, Some, None, Result, Ok, Err, refl, sym, ap, subst, arith}
 use Rattle.std.proofs.lemmas.Option.{same_Some}
 use Rattle.nego_io.specs.Outside.{WhereTold}
 use Rattle.nego_io.proofs.OutsideLaws.{told_so}
@@ -71,7 +71,11 @@ pub usage_shown : (words : List (List ℕ)) (source out err : Change) (r : Resul
 usage_shown words source out err (Ok answer) status told put none = absurd (asks_not_none words told.command told.asks none)
 usage_shown words source out err (Err failures.Words) status cause (nothing, put) none = line_shown failures.Words out err status nothing put
 usage_shown words source out err (Err (failures.Refused why)) status cause put none = absurd (asks_not_none words cause.command cause.asks none)
-usage_shown words source out err (Err failures.ReadFault) status cause put none = absurd (asks_not_none words cause.0.0 cause.0.1 none)
+usage_shown words source out err (Err failures.ReadFault) status cause put none =
+    let reads : 0 < most_parts (asked words) = cause.0 in
+    let none_read : most_parts (asked words) ≡ 0 = ap most_parts none in
+    let never : ⊥ = omega (arith, reads, none_read) in
+    absurd never
 usage_shown words source out err (Err failures.Memory) status cause (nothing, put) none = memory_shown failures.Words out err status put
 
 -- two ends of the command that is asked for, over one input

@@ -1,5 +1,5 @@
 -- The answer of the command that words say is the answer to the words.
-use Rattle.std.proofs.Common.{◌≡◌, ◌∙◌, ℕ, List, Some, Result, Ok, Err, refl, sym, ap, subst}
+use Rattle.std.proofs.Common.{◌≡◌, ◌∙◌, ℕ, ◌<◌, List, Some, Result, Ok, Err, refl, sym, ap, subst}
 use Rattle.std.specs.Prelude.{IfErr, option_and_then}
 use Rattle.nego_cli.specs.declared.answer.Answer.{Answer}
 use Rattle.nego_cli.specs.declared.command.Command.{Command}
@@ -29,8 +29,8 @@ built_most (commands.Run starts) = refl
 built_most (commands.Node seed turns starts) = refl
 built_most (commands.Make n) = refl
 
-took_so : (words : List (List ℕ)) (command : Command) (source : Change) → command_of words ≡ Some command → TookParts (most_parts (Some command)) source → TookParts (most_parts (asked words)) source
-took_so words command source is took = subst (λ n. TookParts n source) (sym (ap (λ c. most_parts (option_and_then built c)) is ∙ built_most command)) took
+most_so : (words : List (List ℕ)) (command : Command) → command_of words ≡ Some command → most_parts (Some command) ≡ most_parts (asked words)
+most_so words command is = sym (ap (λ c. most_parts (option_and_then built c)) is ∙ built_most command)
 
 pub found_so : (words : List (List ℕ)) (command : Command) (source : Change) (r : Result Answer Failure) → command_of words ≡ Some command → IsAnswer command source r → IsFound words source r
 found_so words command source (Ok answer) is (reads, read, turn, told) =
@@ -38,8 +38,9 @@ found_so words command source (Ok answer) is (reads, read, turn, told) =
 found_so words command source (Err failures.Words) is (none, read) = (ap (option_and_then built) is ∙ ap (option_and_then (λ _. Some command)) none, read)
 found_so words command source (Err (failures.Refused why)) is (reads, read, turn) =
     record { command = command; reads = reads; asks = asks_so words command is (one_read command reads (Refuses why) turn).1; read = read; turn = turn }
-found_so words command source (Err failures.ReadFault) is (asks, failed, took) = ((command, ap (option_and_then built) is ∙ asks), failed, took_so words command source is took)
-found_so words command source (Err failures.Memory) is (stayed, took) = (stayed, took_so words command source is took)
+found_so words command source (Err failures.ReadFault) is (reads, failed, took) =
+    (subst (λ n. 0 < n) (most_so words command is) reads, failed, subst (λ n. TookParts n source) (most_so words command is) took)
+found_so words command source (Err failures.Memory) is (stayed, took) = (stayed, subst (λ n. TookParts n source) (most_so words command is) took)
 
 -- what a refusal names is there
 pub found_named : (words : List (List ℕ)) (source : Change) (r : Result Answer Failure) → IsFound words source r → IfErr r FailureIsNamed

@@ -1,5 +1,5 @@
 -- What the top call answers: each status with its cause, what it put out, and what it left unread.
-use Rattle.std.specs.Prelude.{◌≡◌, ◌⊎◌, ℕ, List, [], None, Result, Ok, Err}
+use Rattle.std.specs.Prelude.{◌≡◌, ◌⊎◌, ℕ, ◌<◌, List, [], None, Result, Ok, Err}
 use Rattle.nego_cli.specs.declared.answer.Answer.{Answer}
 use Rattle.nego_cli.specs.declared.command.Command.{Command}
 use Rattle.nego_cli.specs.declared.failure.Failure.{Failure}
@@ -45,11 +45,12 @@ pub record IsRefused (words : List (List ℕ)) (source : Change) (why : Refusal)
   pub read : HasRead reads source
   pub turn : TurnOf command reads (Refuses why)
 
--- The failure has its cause. Nothing of what is behind the parts of the command was taken.
+-- The failure has its cause. Only a command that reads a part has a read fault, and nothing of what is behind the parts of the
+-- command was taken.
 abbrev pub HasFailed : List (List ℕ) → Change → Failure → Type 0
 HasFailed words source failures.Words = (asked words ≡ None) × HasRead [] source
 HasFailed words source (failures.Refused why) = IsRefused words source why
-HasFailed words source failures.ReadFault = ((command : Command) × Asks words command) × Failed source × TookParts (most_parts (asked words)) source
+HasFailed words source failures.ReadFault = (0 < most_parts (asked words)) × Failed source × TookParts (most_parts (asked words)) source
 HasFailed words source failures.Memory = Stayed source × TookParts (most_parts (asked words)) source
 
 -- The answer has its cause in the words and in what was taken of the source.

@@ -12,7 +12,7 @@ pub record Change : Type 0 where
 abbrev pub change : {X : Type 0} → (X → Option (List ℕ)) → (X → ℕ) → X → X → Change
 change bytes faults old new = record { before = bytes old; after = bytes new; faults_before = faults old; faults_after = faults new }
 
--- The count of faults rose.
+-- The count of faults rose, or stands at its last value.
 abbrev pub Failed : Change → Type 0
 Failed object = Rose object.faults_before object.faults_after
 
