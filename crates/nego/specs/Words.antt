@@ -1,5 +1,5 @@
--- What an argument is as a word.
-use Rattle.std.specs.Prelude.{◌≡◌, ℕ, List, [], take, Option, Some, None, Result, Ok, Err, IsUtf8}
+-- What arguments are as words.
+use Rattle.std.specs.Prelude.{◌≡◌, ℕ, List, [], take, drop, Option, Some, None, IfSome, Result, Ok, Err, IsUtf8}
 use Rattle.std.specs.declared.env.FillError.{FillError}
 use Rattle.std.specs.declared.env.FillError.TheVariants.{NotPresent, TooLong}
 
@@ -14,3 +14,7 @@ IsWordOf (Ok count) written (Some word) = IsTextOf (take count written) word
 IsWordOf (Ok count) written None = ⊥
 IsWordOf (Err TooLong) written word = word ≡ Some []
 IsWordOf (Err NotPresent) written word = word ≡ None
+
+-- Where the arguments are told, these words are all of them behind the program's name, in their order.
+abbrev pub AreBehindName : Option (List (List ℕ)) → List (List ℕ) → Type 0
+AreBehindName told words = IfSome told (λ all. words ≡ drop 1 all)

@@ -1,26 +1,30 @@
 //! One call of the program over streams.
 
-ghost use Rattle.std.specs.Prelude.{◌≡◌};
+ghost use Rattle.std.specs.Prelude.{◌≡◌, ◌⊎◌};
 ghost use Rattle.std.specs.Process.{exit_status};
 ghost use Rattle.nego_cli.specs.Status.{status_number};
+ghost use Rattle.nego.specs.Run.{SaysOfArguments, counted};
 
 use crate::streams::{ReaderSource, WriterSink};
-use crate::words::{Arguments, words_of};
+use crate::words::{Arguments, argument_words};
 use nego_cli::{Status, nego};
 use std::alloc::Global;
 use std::io::{Read, Write};
 use std::process::ExitCode;
 
-/// Does what the arguments say over a reader and two writers. Where memory for the list of words is refused, nothing is
-/// read or put.
+/// Does what the arguments say over a reader and two writers. Where memory for the list of words is refused, it ends with
+/// that, and nothing is read or put.
 pub(crate) fn run<A: Arguments, R: Read, O: Write, E: Write>(
     alloc: Global,
     arguments: &A,
     source: &mut ReaderSource<R>,
     out: &mut WriterSink<O>,
     err: &mut WriterSink<E>,
-) -> Status {
-    match words_of(alloc, arguments) {
+) -> Status
+    ensures says { ((result ≡ Status.Memory) × (source.new ≡ source.old) × (out.new ≡ out.old) × (err.new ≡ err.old))
+        ⊎ SaysOfArguments (A.told arguments.now) (counted source.old.faults source.new.faults) (counted out.old.faults out.new.faults) (counted err.old.faults err.new.faults) result }
+{
+    match argument_words(alloc, arguments) {
         Ok(words) => nego(alloc, words.as_slice(), source, out, err),
         Err(_) => Status::Memory,
     }

@@ -14,7 +14,7 @@ mod words;
 
 use answers::ANSWERS;
 use calls::{BAD_WORDS, Call, answers};
-use refusals::{FAULTS, REFUSALS};
+use refusals::{FAULTS, REFUSALS, lines_are_refused};
 use shapes::shapes_are_told;
 use std::test::Fail;
 
@@ -39,6 +39,7 @@ fn calls_over_memory(rt: HostRuntime) -> Result<(), Fail> {
         let call = Call { words, ..BAD_WORDS };
         answers(&rt, alloc, &call, "words", i)?;
     }
+    lines_are_refused(&rt, alloc)?;
     shapes_are_told(&rt, alloc)
 }
 

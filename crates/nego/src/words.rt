@@ -1,8 +1,8 @@
 //! The words of the command line.
 
-ghost use Rattle.std.specs.Prelude.{◌≡◌, ℕ, List, Option, None, IfOk, IfSome, drop, slice_get};
+ghost use Rattle.std.specs.Prelude.{◌≡◌, ℕ, List, Option, None, IfOk, IfSome, slice_get};
 ghost use Rattle.std.specs.Io.{WritesAtMost};
-ghost use Rattle.nego.specs.Words.{IsTextOf, IsWordOf};
+ghost use Rattle.nego.specs.Words.{AreBehindName, IsTextOf, IsWordOf};
 
 use nego_base::{Memory, Seq, Text};
 use std::alloc::Global;
@@ -21,8 +21,8 @@ pub(crate) trait Arguments {
 }
 
 /// The words of a call: its arguments behind the program's name, all of them in their order.
-pub(crate) fn words_of<A: Arguments>(alloc: Global, arguments: &A) -> Result<Seq<Text>, Memory>
-    ensures { IfOk result (λ words. IfSome (A.told arguments.now) (λ all. words ≡ drop 1 all)) }
+pub(crate) fn argument_words<A: Arguments>(alloc: Global, arguments: &A) -> Result<Seq<Text>, Memory>
+    ensures { IfOk result (AreBehindName (A.told arguments.now)) }
 {
     let mut words = Seq::new(alloc);
     while let Some(word) = arguments.word(alloc, words.as_slice().len() + 1)? {

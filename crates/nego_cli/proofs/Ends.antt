@@ -10,9 +10,9 @@ use Rattle.nego_cli.specs.declared.failure.Failure.TheVariants as failures
 use Rattle.nego_cli.specs.declared.failure.Refusal.{Refusal}
 use Rattle.nego_cli.specs.declared.status.Status.{Status}
 use Rattle.nego_cli.specs.declared.status.Status.TheVariants as statuses
-use Rattle.nego_cli.specs.Change.{Change, Failed, Put}
+use Rattle.nego_cli.specs.Effect.{Effect, HasFaulted, Put}
 use Rattle.nego_cli.specs.Parts.{Read, Reads, reads_at, HasRead, TakesParts, TookParts}
-use Rattle.nego_cli.specs.Turn.{Turn, Tells, Refuses}
+use Rattle.nego_cli.specs.Turn.{Turn, TellsText, Refuses}
 use Rattle.nego_cli.specs.Commands.{TurnOf, TextOf, asked, Asks, most_parts}
 use Rattle.nego_cli.specs.Delivery.{IsDelivered, IsLinePut}
 use Rattle.nego_cli.specs.Answer.{failure_line, failure_status, IsTold, IsRefused, HasFailed, IsFound, Says, ShowsLine, ShowsText, FailsToRead}
@@ -21,26 +21,26 @@ use Rattle.nego_cli.proofs.Turns.{one_read, one_turn, text_done}
 
 -- ---- what each status says
 
-line_stands : (words : List (List ℕ)) (source out err : Change) (failure : Failure) → HasFailed words source failure → Put [] out → Put (failure_line failure) err → Says words source out err (failure_status failure)
+line_stands : (words : List (List ℕ)) (source out err : Effect) (failure : Failure) → HasFailed words source failure → Put [] out → Put (failure_line failure) err → Says words source out err (failure_status failure)
 line_stands words source out err failures.Words cause nothing put = (failures.Words, refl, cause, nothing, put)
 line_stands words source out err (failures.Refused why) cause nothing put = (failures.Refused why, refl, cause, nothing, put)
 line_stands words source out err failures.ReadFault cause nothing put = (failures.ReadFault, refl, cause, nothing, put)
 line_stands words source out err failures.Memory cause nothing put = (failures.Memory, refl, cause, nothing, put)
 
 -- a line with its cause was put, or a front of it
-line_said : (words : List (List ℕ)) (source out err : Change) (failure : Failure) (status : Status) → HasFailed words source failure → Put [] out → IsLinePut (failure_line failure) (failure_status failure) err status →
+line_said : (words : List (List ℕ)) (source out err : Effect) (failure : Failure) (status : Status) → HasFailed words source failure → Put [] out → IsLinePut (failure_line failure) (failure_status failure) err status →
     Says words source out err status
 line_said words source out err failure status cause nothing (inl (is, put)) = subst (Says words source out err) (sym is) (line_stands words source out err failure cause nothing put)
 line_said words source out err failure status cause nothing (inr (is, front)) = subst (Says words source out err) (sym is) (inr (failure, cause, nothing, front))
 
 -- a refusal for whose line there was no memory
-refused_starved : (words : List (List ℕ)) (source : Change) (why : Refusal) → IsRefused words source why → HasFailed words source failures.Memory
+refused_starved : (words : List (List ℕ)) (source : Effect) (why : Refusal) → IsRefused words source why → HasFailed words source failures.Memory
 refused_starved words source why h =
     let one = one_read h.command h.reads (Refuses why) h.turn in
     let count : most_parts (asked words) ≡ 1 = ap most_parts h.asks ∙ (let parts = one.1 in cc) in
     (h.read.0, subst (λ n. TookParts n source) (sym count) (took_one one.0.0 source (subst (λ reads. HasRead reads source) one.0.1 h.read)))
 
-pub what_is_said : (words : List (List ℕ)) (source out err : Change) (r : Result Answer Failure) (status : Status) → IsFound words source r → IsDelivered r out err status → Says words source out err status
+pub what_is_said : (words : List (List ℕ)) (source out err : Effect) (r : Result Answer Failure) (status : Status) → IsFound words source r → IsDelivered r out err status → Says words source out err status
 what_is_said words source out err (Ok answer) status told (inl (is, put, nothing)) =
     let done : answer.status ≡ statuses.Done = text_done told.command told.reads answer.status answer.text told.told in
     subst (Says words source out err) (sym (is ∙ done)) (answer.text, subst (λ s. IsTold words source s answer.text) done told, put, nothing)
@@ -57,16 +57,16 @@ asks_not_none : (words : List (List ℕ)) (command : Command) → Asks words com
 asks_not_none words command asks none = let apart : Some command ≡ None = sym asks ∙ none in cc
 
 -- the line was put, or not
-line_shown : (failure : Failure) (out err : Change) (status : Status) → Put [] out → IsLinePut (failure_line failure) (failure_status failure) err status → ShowsLine failure out err status
+line_shown : (failure : Failure) (out err : Effect) (status : Status) → Put [] out → IsLinePut (failure_line failure) (failure_status failure) err status → ShowsLine failure out err status
 line_shown failure out err status nothing (inl (is, put)) = inl (is, nothing, put)
 line_shown failure out err status nothing (inr (is, front)) = inr (inl (is, front.0))
 
 -- want of memory shows each line
-memory_shown : (failure : Failure) (out err : Change) (status : Status) → IsLinePut (failure_line failures.Memory) statuses.Memory err status → ShowsLine failure out err status
+memory_shown : (failure : Failure) (out err : Effect) (status : Status) → IsLinePut (failure_line failures.Memory) statuses.Memory err status → ShowsLine failure out err status
 memory_shown failure out err status (inl (is, put)) = inr (inr is)
 memory_shown failure out err status (inr (is, front)) = inr (inl (is, front.0))
 
-pub usage_shown : (words : List (List ℕ)) (source out err : Change) (r : Result Answer Failure) (status : Status) → IsFound words source r → IsDelivered r out err status → asked words ≡ None →
+pub usage_shown : (words : List (List ℕ)) (source out err : Effect) (r : Result Answer Failure) (status : Status) → IsFound words source r → IsDelivered r out err status → asked words ≡ None →
     ShowsLine failures.Words out err status
 usage_shown words source out err (Ok answer) status told put none = absurd (asks_not_none words told.command told.asks none)
 usage_shown words source out err (Err failures.Words) status cause (nothing, put) none = line_shown failures.Words out err status nothing put
@@ -88,25 +88,25 @@ same_turn words command reads turn input left asks here is other n turn' asks' t
     (same, is.0 ∙ ap (λ i. reads_at i input) both.0, both.1)
 
 -- what is shown where a refusal has its cause
-abbrev IsRefusalShown : List (List ℕ) → Change → Change → Change → Status → List ℕ → List ℕ → Type 0
+abbrev IsRefusalShown : List (List ℕ) → Effect → Effect → Effect → Status → List ℕ → List ℕ → Type 0
 IsRefusalShown words source out err status input _ = (command : Command) (n : ℕ) (why : Refusal) → Asks words command → TurnOf command (reads_at n input) (Refuses why) →
     ShowsLine (failures.Refused why) out err status ⊎ FailsToRead source status
 
 -- and where a text has its cause
-abbrev IsTextShown : List (List ℕ) → Change → Change → Change → Status → List ℕ → List ℕ → Type 0
-IsTextShown words source out err status input _ = (command : Command) (n : ℕ) → Asks words command → TurnOf command (reads_at n input) Tells →
+abbrev IsTextShown : List (List ℕ) → Effect → Effect → Effect → Status → List ℕ → List ℕ → Type 0
+IsTextShown words source out err status input _ = (command : Command) (n : ℕ) → Asks words command → TurnOf command (reads_at n input) TellsText →
     ShowsText command (reads_at n input) out err status ⊎ FailsToRead source status
 
-read_fault_shown : (failure : Failure) (source out err : Change) (status : Status) → Failed source → IsLinePut (failure_line failures.ReadFault) statuses.ReadFault err status → ShowsLine failure out err status ⊎ FailsToRead source status
+read_fault_shown : (failure : Failure) (source out err : Effect) (status : Status) → HasFaulted source → IsLinePut (failure_line failures.ReadFault) statuses.ReadFault err status → ShowsLine failure out err status ⊎ FailsToRead source status
 read_fault_shown failure source out err status failed (inl (is, put)) = inr (is, failed)
 read_fault_shown failure source out err status failed (inr (is, front)) = inl (inr (inl (is, front.0)))
 
-pub refusal_shown : (words : List (List ℕ)) (source out err : Change) (r : Result Answer Failure) (status : Status) → IsFound words source r → IsDelivered r out err status →
+pub refusal_shown : (words : List (List ℕ)) (source out err : Effect) (r : Result Answer Failure) (status : Status) → IsFound words source r → IsDelivered r out err status →
     WhereTold source.before source.after (IsRefusalShown words source out err status)
 refusal_shown words source out err (Ok answer) status told put =
     told_so (Reads told.reads) (IsRefusalShown words source out err status) source.before source.after
     (λ input left is command n why asks turn.
-    (let apart = (same_turn words told.command told.reads Tells input left told.asks told.turn is command n (Refuses why) asks turn).2 in absurd (let never : Tells ≡ Refuses why = apart in cc))) told.read.1
+    (let apart = (same_turn words told.command told.reads TellsText input left told.asks told.turn is command n (Refuses why) asks turn).2 in absurd (let never : TellsText ≡ Refuses why = apart in cc))) told.read.1
 refusal_shown words source out err (Err failures.Words) status cause put =
     told_so (Reads []) (IsRefusalShown words source out err status) source.before source.after (λ input left is command n why asks turn. absurd (asks_not_none words command asks cause.0)) cause.1.1
 refusal_shown words source out err (Err (failures.Refused other)) status cause (nothing, put) =
@@ -127,33 +127,33 @@ refusal_shown words source out err (Err failures.Memory) status cause (nothing, 
     (λ input left took command n why asks turn. inl (memory_shown (failures.Refused why) out err status put)) cause.1
 
 -- what is put of a text
-text_put : (command : Command) (reads : List Read) (answer : Answer) (out err : Change) (status : Status) → TextOf command reads answer.status answer.text → IsDelivered (Ok answer) out err status → ShowsText command reads out err status
+text_put : (command : Command) (reads : List Read) (answer : Answer) (out err : Effect) (status : Status) → TextOf command reads answer.status answer.text → IsDelivered (Ok answer) out err status → ShowsText command reads out err status
 text_put command reads answer out err status told (inl (is, put, nothing)) = inl (answer.text, subst (λ s. TextOf command reads s answer.text) (sym is) told, put, nothing)
 text_put command reads answer out err status told (inr (is, front, tried)) = inr (inl (is, inl front.0))
 
 -- what is put in place of a text
-line_for_text : (command : Command) (reads : List Read) (source out err : Change) (status : Status) → Failed source → IsLinePut (failure_line failures.ReadFault) statuses.ReadFault err status →
+line_for_text : (command : Command) (reads : List Read) (source out err : Effect) (status : Status) → HasFaulted source → IsLinePut (failure_line failures.ReadFault) statuses.ReadFault err status →
     ShowsText command reads out err status ⊎ FailsToRead source status
 line_for_text command reads source out err status failed (inl (is, put)) = inr (is, failed)
 line_for_text command reads source out err status failed (inr (is, front)) = inl (inr (inl (is, inr front.0)))
 
-memory_for_text : (command : Command) (reads : List Read) (out err : Change) (status : Status) → IsLinePut (failure_line failures.Memory) statuses.Memory err status → ShowsText command reads out err status
+memory_for_text : (command : Command) (reads : List Read) (out err : Effect) (status : Status) → IsLinePut (failure_line failures.Memory) statuses.Memory err status → ShowsText command reads out err status
 memory_for_text command reads out err status (inl (is, put)) = inr (inr is)
 memory_for_text command reads out err status (inr (is, front)) = inr (inl (is, inr front.0))
 
-pub text_shown : (words : List (List ℕ)) (source out err : Change) (r : Result Answer Failure) (status : Status) → IsFound words source r → IsDelivered r out err status →
+pub text_shown : (words : List (List ℕ)) (source out err : Effect) (r : Result Answer Failure) (status : Status) → IsFound words source r → IsDelivered r out err status →
     WhereTold source.before source.after (IsTextShown words source out err status)
 text_shown words source out err (Ok answer) status told put =
     told_so (Reads told.reads) (IsTextShown words source out err status) source.before source.after
     (λ input left is command n asks turn.
-    (let same = same_turn words told.command told.reads Tells input left told.asks told.turn is command n Tells asks turn in
+    (let same = same_turn words told.command told.reads TellsText input left told.asks told.turn is command n TellsText asks turn in
     inl (subst (λ reads. ShowsText command reads out err status) same.1 (subst (λ c. ShowsText c told.reads out err status) same.0 (text_put told.command told.reads answer out err status told.told put))))) told.read.1
 text_shown words source out err (Err failures.Words) status cause put =
     told_so (Reads []) (IsTextShown words source out err status) source.before source.after (λ input left is command n asks turn. absurd (asks_not_none words command asks cause.0)) cause.1.1
 text_shown words source out err (Err (failures.Refused why)) status cause put =
     told_so (Reads cause.reads) (IsTextShown words source out err status) source.before source.after
     (λ input left is command n asks turn.
-    (let turns = (same_turn words cause.command cause.reads (Refuses why) input left cause.asks cause.turn is command n Tells asks turn).2 in absurd (let never : Refuses why ≡ Tells = turns in cc))) cause.read.1
+    (let turns = (same_turn words cause.command cause.reads (Refuses why) input left cause.asks cause.turn is command n TellsText asks turn).2 in absurd (let never : Refuses why ≡ TellsText = turns in cc))) cause.read.1
 text_shown words source out err (Err failures.ReadFault) status cause (nothing, put) =
     told_so (TakesParts (most_parts (asked words))) (IsTextShown words source out err status) source.before source.after
     (λ input left took command n asks turn. line_for_text command (reads_at n input) source out err status cause.1 put) cause.2

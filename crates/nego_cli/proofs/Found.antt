@@ -6,9 +6,9 @@ use Rattle.nego_cli.specs.declared.command.Command.{Command}
 use Rattle.nego_cli.specs.declared.command.Command.TheVariants as commands
 use Rattle.nego_cli.specs.declared.failure.Failure.{Failure}
 use Rattle.nego_cli.specs.declared.failure.Failure.TheVariants as failures
-use Rattle.nego_cli.specs.Change.{Change}
+use Rattle.nego_cli.specs.Effect.{Effect}
 use Rattle.nego_cli.specs.Parts.{TookParts}
-use Rattle.nego_cli.specs.Turn.{Tells, Refuses}
+use Rattle.nego_cli.specs.Turn.{TellsText, Refuses}
 use Rattle.nego_cli.specs.Words.{command_of}
 use Rattle.nego_cli.specs.Commands.{parts_of, built, asked, Asks, most_parts}
 use Rattle.nego_cli.specs.Dispatch.{IsAnswer}
@@ -32,9 +32,9 @@ built_most (commands.Make n) = refl
 most_so : (words : List (List ℕ)) (command : Command) → command_of words ≡ Some command → most_parts (Some command) ≡ most_parts (asked words)
 most_so words command is = sym (ap (λ c. most_parts (option_and_then built c)) is ∙ built_most command)
 
-pub found_so : (words : List (List ℕ)) (command : Command) (source : Change) (r : Result Answer Failure) → command_of words ≡ Some command → IsAnswer command source r → IsFound words source r
+pub found_so : (words : List (List ℕ)) (command : Command) (source : Effect) (r : Result Answer Failure) → command_of words ≡ Some command → IsAnswer command source r → IsFound words source r
 found_so words command source (Ok answer) is (reads, read, turn, told) =
-    record { command = command; reads = reads; asks = asks_so words command is (one_read command reads Tells turn).1; read = read; turn = turn; told = told }
+    record { command = command; reads = reads; asks = asks_so words command is (one_read command reads TellsText turn).1; read = read; turn = turn; told = told }
 found_so words command source (Err failures.Words) is (none, read) = (ap (option_and_then built) is ∙ ap (option_and_then (λ _. Some command)) none, read)
 found_so words command source (Err (failures.Refused why)) is (reads, read, turn) =
     record { command = command; reads = reads; asks = asks_so words command is (one_read command reads (Refuses why) turn).1; read = read; turn = turn }
@@ -43,7 +43,7 @@ found_so words command source (Err failures.ReadFault) is (reads, failed, took) 
 found_so words command source (Err failures.Memory) is (stayed, took) = (stayed, subst (λ n. TookParts n source) (most_so words command is) took)
 
 -- what a refusal names is there
-pub found_named : (words : List (List ℕ)) (source : Change) (r : Result Answer Failure) → IsFound words source r → IfErr r FailureIsNamed
+pub found_named : (words : List (List ℕ)) (source : Effect) (r : Result Answer Failure) → IsFound words source r → IfErr r FailureIsNamed
 found_named words source (Ok answer) h = tt
 found_named words source (Err failures.Words) h = tt
 found_named words source (Err (failures.Refused why)) h = turn_named h.command h.reads why h.turn

@@ -18,7 +18,7 @@ use Rattle.nego_shape.proofs.SoundShape.{shaped_form}
 use Rattle.nego_cli.specs.declared.failure.PartName.TheVariants as parts
 use Rattle.nego_cli.specs.declared.failure.Refusal.{Refusal}
 use Rattle.nego_cli.specs.declared.failure.Refusal.TheVariants as refusals
-use Rattle.nego_cli.specs.Change.{Change}
+use Rattle.nego_cli.specs.Effect.{Effect}
 use Rattle.nego_cli.specs.Parts.{Read, ReadPart, ReadTooLong, ReadNoEnd, Reads, HasRead, TakesParts, TookParts, part_limit}
 use Rattle.nego_cli.specs.Loading.{SpellsDiagram, HasNoDiagram, IsNoDiagram}
 use Rattle.nego_cli.specs.Refusals.{IsNamed, diagram_of}
@@ -26,7 +26,7 @@ use Rattle.nego_cli.specs.Refusals.{IsNamed, diagram_of}
 -- ---- what is taken
 
 -- With one part read, one part was taken.
-pub took_one : (read : Read) (source : Change) → HasRead (read ∷ []) source → TookParts 1 source
+pub took_one : (read : Read) (source : Effect) → HasRead (read ∷ []) source → TookParts 1 source
 took_one read source h = told_so (Reads (read ∷ [])) (TakesParts 1) source.before source.after (λ input left is. inr (sym is.1)) h.1
 
 takes_none : (n : ℕ) (input : List ℕ) → TakesParts n input input

@@ -21,10 +21,10 @@ use Rattle.nego_cli.specs.declared.failure.Refusal.TheVariants as refusals
 use Rattle.nego_cli.specs.declared.status.Status.{Status}
 use Rattle.nego_cli.specs.declared.status.Status.TheVariants as statuses
 use Rattle.nego_cli.specs.Order.{IsPairBelow}
-use Rattle.nego_cli.specs.Change.{Change}
+use Rattle.nego_cli.specs.Effect.{Effect}
 use Rattle.nego_cli.specs.Parts.{Read, ReadPart, ReadTooLong, ReadNoEnd, part_limit, reads_at}
 use Rattle.nego_cli.specs.Loading.{SpellsDiagram, IsNoDiagram, HasLoaded}
-use Rattle.nego_cli.specs.Turn.{Turn, Tells, Refuses, TurnOverDiagram}
+use Rattle.nego_cli.specs.Turn.{Turn, TellsText, Refuses, TurnOverDiagram}
 use Rattle.nego_cli.specs.Check.{CheckTurn, CheckText}
 use Rattle.nego_cli.specs.Reduce.{ReduceTurn, ReduceText, IsNotReduced, HasNotReduced}
 use Rattle.nego_cli.specs.Commands.{TurnOf, TextOf, parts_of}
@@ -91,7 +91,7 @@ check_once : (d : PlainDiagram) → IsDiagram d → (turn other : Turn) → Chec
 check_once d diagram turn other h k = h.0 ∙ sym k.0
 
 -- a diagram that is taken isn't refused
-reduced_not : (d : PlainDiagram) (why : Refusal) → IsDiagram d → ReduceTurn d [] Tells → IsNotReduced d why → ⊥
+reduced_not : (d : PlainDiagram) (why : Refusal) → IsDiagram d → ReduceTurn d [] TellsText → IsNotReduced d why → ⊥
 reduced_not d why diagram h (inl (o, a, is, first)) = undetermined d diagram o.0 a.0 first.outcome first.two h.0
 reduced_not d why diagram h (inr (is, determined, wide)) = wide h.1
 
@@ -103,13 +103,13 @@ not_reduced_once d why other diagram (inr (is', determined, wide)) (inl (o, a, i
 not_reduced_once d why other diagram (inr (is, determined, wide)) (inr (is', determined', wide')) = is ∙ sym is'
 
 reduce_once : (d : PlainDiagram) → IsDiagram d → (turn other : Turn) → ReduceTurn d [] turn → ReduceTurn d [] other → turn ≡ other
-reduce_once d diagram Tells Tells h k = refl
-reduce_once d diagram Tells (Refuses why) h k = absurd (reduced_not d why diagram h k.0)
-reduce_once d diagram (Refuses why) Tells h k = absurd (reduced_not d why diagram k h.0)
+reduce_once d diagram TellsText TellsText h k = refl
+reduce_once d diagram TellsText (Refuses why) h k = absurd (reduced_not d why diagram h k.0)
+reduce_once d diagram (Refuses why) TellsText h k = absurd (reduced_not d why diagram k h.0)
 reduce_once d diagram (Refuses why) (Refuses other) h k = ap Refuses (not_reduced_once d why other diagram h.0 k.0)
 
 reduce_alone : (d : PlainDiagram) (reads : List Read) (turn : Turn) → ReduceTurn d reads turn → reads ≡ []
-reduce_alone d reads Tells h = h.2
+reduce_alone d reads TellsText h = h.2
 reduce_alone d reads (Refuses why) h = h.1
 
 -- ---- all commands
@@ -182,7 +182,7 @@ not_reduced_named d why (inr (is, determined, wide)) = subst IsNamed (sym is) tt
 -- what a command names in a refusal is there
 pub turn_named : (command : Command) (reads : List Read) (why : Refusal) → TurnOf command reads (Refuses why) → IsNamed why
 turn_named commands.Check reads why h =
-    over_named CheckTurn (λ d reads why done. (let never : Refuses why ≡ Tells = done.0 in cc)) reads why h
+    over_named CheckTurn (λ d reads why done. (let never : Refuses why ≡ TellsText = done.0 in cc)) reads why h
 turn_named commands.Reduce reads why h = over_named ReduceTurn (λ d reads why done. not_reduced_named d why done.0) reads why h
 turn_named commands.Replay reads why h = absurd h
 turn_named (commands.Ask starts) reads why h = absurd h
@@ -192,7 +192,7 @@ turn_named (commands.Make n) reads why h = absurd h
 
 -- ---- the answers of commands over a diagram
 
-pub checked : (source : Change) (d : PlainDiagram) (r : Result Answer Failure) → HasLoaded source d → IfOk r (λ answer. CheckText d [] answer.status answer.text) → IfErr r (λ e. e ≡ failures.Memory) →
+pub checked : (source : Effect) (d : PlainDiagram) (r : Result Answer Failure) → HasLoaded source d → IfOk r (λ answer. CheckText d [] answer.status answer.text) → IfErr r (λ e. e ≡ failures.Memory) →
     IsAnswer commands.Check source r
 checked source d (Ok answer) loaded told failed =
     (ReadPart loaded.text ∷ [], loaded.read, inr (loaded.text, d, refl, loaded.spelled, (refl, refl)), (d, loaded.spelled, loaded.diagram, told))
@@ -201,7 +201,7 @@ checked source d (Err failures.Words) loaded told failed = cc
 checked source d (Err failures.ReadFault) loaded told failed = cc
 checked source d (Err (failures.Refused why)) loaded told failed = cc
 
-pub reduced : (source : Change) (d : PlainDiagram) (r : Result Answer Failure) → HasLoaded source d → IfOk r (λ _. ReduceTurn d [] Tells) → IfOk r (λ answer. ReduceText d [] answer.status answer.text) →
+pub reduced : (source : Effect) (d : PlainDiagram) (r : Result Answer Failure) → HasLoaded source d → IfOk r (λ _. ReduceTurn d [] TellsText) → IfOk r (λ answer. ReduceText d [] answer.status answer.text) →
     IfErr r (HasNotReduced d) → IsAnswer commands.Reduce source r
 reduced source d (Ok answer) loaded turn told failed =
     (ReadPart loaded.text ∷ [], loaded.read, inr (loaded.text, d, refl, loaded.spelled, turn), (d, loaded.spelled, loaded.diagram, told))

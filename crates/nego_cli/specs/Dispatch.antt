@@ -4,16 +4,16 @@ use Rattle.nego_cli.specs.declared.answer.Answer.{Answer}
 use Rattle.nego_cli.specs.declared.command.Command.{Command}
 use Rattle.nego_cli.specs.declared.failure.Failure.{Failure}
 use Rattle.nego_cli.specs.declared.failure.Failure.TheVariants as failures
-use Rattle.nego_cli.specs.Change.{Change, Failed, Stayed}
+use Rattle.nego_cli.specs.Effect.{Effect, HasFaulted, Stayed}
 use Rattle.nego_cli.specs.Parts.{Read, HasRead, TookParts}
-use Rattle.nego_cli.specs.Turn.{Tells, Refuses}
+use Rattle.nego_cli.specs.Turn.{TellsText, Refuses}
 use Rattle.nego_cli.specs.Commands.{TurnOf, TextOf, parts_of, most_parts}
 
 -- The answer of the command has its cause in what was taken of the source; or the command isn't built. Only a command that
 -- reads a part has a read fault.
-abbrev pub IsAnswer : Command → Change → Result Answer Failure → Type 0
-IsAnswer command source (Ok answer) = (reads : List Read) × HasRead reads source × TurnOf command reads Tells × TextOf command reads answer.status answer.text
+abbrev pub IsAnswer : Command → Effect → Result Answer Failure → Type 0
+IsAnswer command source (Ok answer) = (reads : List Read) × HasRead reads source × TurnOf command reads TellsText × TextOf command reads answer.status answer.text
 IsAnswer command source (Err failures.Words) = (parts_of command ≡ None) × HasRead [] source
 IsAnswer command source (Err (failures.Refused why)) = (reads : List Read) × HasRead reads source × TurnOf command reads (Refuses why)
-IsAnswer command source (Err failures.ReadFault) = (0 < most_parts (Some command)) × Failed source × TookParts (most_parts (Some command)) source
+IsAnswer command source (Err failures.ReadFault) = (0 < most_parts (Some command)) × HasFaulted source × TookParts (most_parts (Some command)) source
 IsAnswer command source (Err failures.Memory) = Stayed source × TookParts (most_parts (Some command)) source

@@ -1,11 +1,11 @@
 pub mod Answer
 pub mod Certificate
-pub mod Change
 pub mod Check
 pub mod CommandLine
 pub mod Commands
 pub mod Delivery
 pub mod Dispatch
+pub mod Effect
 pub mod FormText
 pub mod Loading
 pub mod Narrow

@@ -13,7 +13,7 @@ use Rattle.nego_cli.specs.declared.failure.Refusal.{Refusal}
 use Rattle.nego_cli.specs.declared.failure.Refusal.TheVariants.{TooLong, NoEnd, Off, Misshapen}
 use Rattle.nego_cli.specs.declared.failure.Failure.{Failure}
 use Rattle.nego_cli.specs.declared.failure.Failure.TheVariants as failures
-use Rattle.nego_cli.specs.Change.{Change, Failed, Stayed}
+use Rattle.nego_cli.specs.Effect.{Effect, HasFaulted, Stayed}
 use Rattle.nego_cli.specs.Parts.{Read, ReadPart, ReadTooLong, ReadNoEnd, HasRead, TookParts}
 use Rattle.nego_cli.specs.Refusals.{diagram_of}
 
@@ -47,25 +47,25 @@ IsNoDiagram ReadTooLong why = why ≡ TooLong Diagram
 IsNoDiagram (ReadNoEnd line) why = why ≡ NoEnd Diagram line
 
 -- The diagram was read, and is one.
-pub record HasLoaded (source : Change) (d : PlainDiagram) : Type 0 where
+pub record HasLoaded (source : Effect) (d : PlainDiagram) : Type 0 where
   pub text : List ℕ
   pub read : HasRead (ReadPart text ∷ []) source
   pub spelled : SpellsDiagram text d
   pub diagram : IsDiagram d
 
 -- Why no diagram was read: what was read is none, a call of the source failed, or memory was wanted.
-abbrev pub HasNotLoaded : Change → Failure → Type 0
+abbrev pub HasNotLoaded : Effect → Failure → Type 0
 HasNotLoaded source (failures.Refused why) = (read : Read) × HasRead (read ∷ []) source × IsNoDiagram read why
-HasNotLoaded source failures.ReadFault = Failed source × TookParts 1 source
+HasNotLoaded source failures.ReadFault = HasFaulted source × TookParts 1 source
 HasNotLoaded source failures.Memory = Stayed source × TookParts 1 source
 HasNotLoaded source failures.Words = ⊥
 
 -- Why no part of this name was read: it is too long, or has no end, a call of the source failed, or memory was wanted.
-abbrev pub HasNoPart : PartName → Change → Failure → Type 0
+abbrev pub HasNoPart : PartName → Effect → Failure → Type 0
 HasNoPart part source (failures.Refused (TooLong named)) = (named ≡ part) × HasRead (ReadTooLong ∷ []) source
 HasNoPart part source (failures.Refused (NoEnd named line)) = (named ≡ part) × HasRead (ReadNoEnd line ∷ []) source
 HasNoPart part source (failures.Refused _) = ⊥
-HasNoPart part source failures.ReadFault = Failed source × TookParts 1 source
+HasNoPart part source failures.ReadFault = HasFaulted source × TookParts 1 source
 HasNoPart part source failures.Memory = Stayed source × TookParts 1 source
 HasNoPart part source failures.Words = ⊥
 

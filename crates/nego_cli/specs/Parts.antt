@@ -3,7 +3,7 @@ use Rattle.std.specs.Prelude.{◌≡◌, ◌⊎◌, ℕ, zero, suc, List, [], �
 use Rattle.nego_io.specs.Part.{Reading, Whole, PastLimit, Unended, reading, behind}
 use Rattle.nego_io.specs.Outside.{WhereTold}
 use Rattle.nego_io.specs.Answer.{TakesWithin}
-use Rattle.nego_cli.specs.Change.{Change, Stayed}
+use Rattle.nego_cli.specs.Effect.{Effect, Stayed}
 
 -- how many bytes a part may have
 abbrev pub part_limit : ℕ
@@ -40,7 +40,7 @@ abbrev pub Reads : List Read → List ℕ → List ℕ → Type 0
 Reads reads input left = (reads ≡ reads_at (length reads) input) × (left ≡ behind_parts (length reads) input)
 
 -- No call of the source failed, and where it tells, this is what was read, and nothing more was taken.
-abbrev pub HasRead : List Read → Change → Type 0
+abbrev pub HasRead : List Read → Effect → Type 0
 HasRead reads source = Stayed source × WhereTold source.before source.after (Reads reads)
 
 -- Nothing of what is behind so many parts was taken.
@@ -49,5 +49,5 @@ TakesParts zero input now = input ≡ now
 TakesParts (suc n) input now = TakesWithin part_limit input now ⊎ TakesParts n (behind part_limit input) now
 
 -- Where the source tells, nothing of what is behind so many parts was taken.
-abbrev pub TookParts : ℕ → Change → Type 0
+abbrev pub TookParts : ℕ → Effect → Type 0
 TookParts n source = WhereTold source.before source.after (TakesParts n)

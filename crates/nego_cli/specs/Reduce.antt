@@ -5,7 +5,7 @@ use Rattle.nego_base.specs.declared.ids.OutcomeId.{OutcomeId}
 use Rattle.nego_model.specs.Negotiation.{IsDeterministic}
 use Rattle.nego_model.specs.Diagram.{PlainDiagram, negotiation_of}
 use Rattle.nego_model.specs.Undetermined.{IsFirstUndetermined}
-use Rattle.nego_model.specs.Summary.{PlainSummary, Tells as TellsDiagram}
+use Rattle.nego_model.specs.Summary.{PlainSummary, Tells}
 use Rattle.nego_expr.specs.Use.{PlainUse}
 use Rattle.nego_expr.specs.Fresh.{fresh_work}
 use Rattle.nego_cli.specs.declared.failure.Failure.{Failure}
@@ -15,7 +15,7 @@ use Rattle.nego_cli.specs.declared.failure.Refusal.TheVariants.{Undetermined, No
 use Rattle.nego_cli.specs.declared.status.Status.{Status}
 use Rattle.nego_cli.specs.declared.status.Status.TheVariants.{Done}
 use Rattle.nego_cli.specs.Parts.{Read}
-use Rattle.nego_cli.specs.Turn.{Turn, Tells, Refuses}
+use Rattle.nego_cli.specs.Turn.{Turn, TellsText, Refuses}
 use Rattle.nego_cli.specs.Narrow.{IsNarrowDiagram}
 use Rattle.nego_cli.specs.Order.{Reduces}
 use Rattle.nego_cli.specs.Certificate.{reduction_text}
@@ -36,7 +36,7 @@ HasNotReduced d _ = ⊥
 
 -- It takes a diagram that is deterministic, and of today's form.
 abbrev pub ReduceTurn : PlainDiagram → List Read → Turn → Type 0
-ReduceTurn d reads Tells = IsDeterministic (negotiation_of d) × IsNarrowDiagram d × (reads ≡ [])
+ReduceTurn d reads TellsText = IsDeterministic (negotiation_of d) × IsNarrowDiagram d × (reads ≡ [])
 ReduceTurn d reads (Refuses why) = IsNotReduced d why × (reads ≡ [])
 
 -- The text is the reduction of the diagram: the certificate of just those uses that lead from its fresh work to a work
@@ -45,7 +45,7 @@ pub record IsReductionOf (d : PlainDiagram) (text : List ℕ) : Type 0 where
   pub uses : List PlainUse
   pub summary : PlainSummary
   pub reduces : Reduces (fresh_work d) uses summary
-  pub tells : TellsDiagram summary d
+  pub tells : Tells summary d
   pub printed : text ≡ reduction_text uses summary
 
 -- It tells the reduction.

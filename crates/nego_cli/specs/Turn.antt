@@ -8,7 +8,7 @@ use Rattle.nego_cli.specs.Loading.{SpellsDiagram, IsNoDiagram}
 
 -- How a command ends: it tells a text, or refuses.
 pub data Turn : Type 0 where
-  Tells : Turn
+  TellsText : Turn
   Refuses : Refusal → Turn
 
 -- A command over a diagram refuses what is no diagram, and else does this with the diagram and what it reads behind it.

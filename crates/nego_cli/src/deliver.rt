@@ -1,7 +1,7 @@
 //! Puts an answer on `out`, or the line of a failure on `err`.
 
 ghost use Rattle.std.specs.Prelude.{◌≡◌, ◌⊎◌, ◌≤◌, IfErr, IfOk, OnErr};
-ghost use Rattle.nego_cli.specs.Change.{Failed, change};
+ghost use Rattle.nego_cli.specs.Effect.{HasFaulted, effect};
 ghost use Rattle.nego_cli.specs.Refusals.{IsNamed};
 ghost use Rattle.nego_cli.specs.Answer.{failure_line, failure_status};
 ghost use Rattle.nego_cli.specs.Delivery.{IsTextPut, IsLinePut, IsFailurePut, IsDelivered, FailureIsNamed};
@@ -16,7 +16,7 @@ use std::alloc::Global;
 
 /// Puts a text on `out`. Where that fails, the line of the write fault is tried on `err`, and its failure changes nothing.
 fn put_text<O: Sink, E: Sink>(answer: &Answer, out: &mut O, err: &mut E) -> Status
-    ensures put { IsTextPut answer.now (change O.taken O.faults out.old out.new) (change E.taken E.faults err.old err.new) result }
+    ensures put { IsTextPut answer.now (effect O.taken O.faults out.old out.new) (effect E.taken E.faults err.old err.new) result }
     ensures err_untouched { (result ≡ Status.WriteFault) ⊎ (err.new ≡ err.old) }
     ensures out_faults { O.faults out.old ≤ O.faults out.new }
     ensures err_faults { E.faults err.old ≤ E.faults err.new }
@@ -30,7 +30,7 @@ fn put_text<O: Sink, E: Sink>(answer: &Answer, out: &mut O, err: &mut E) -> Stat
 
 /// Puts a line on `err`, and answers the status or the write fault.
 fn put_line<E: Sink>(line: &[u8], status: Status, err: &mut E) -> Status
-    ensures put { IsLinePut line.now status (change E.taken E.faults err.old err.new) result }
+    ensures put { IsLinePut line.now status (effect E.taken E.faults err.old err.new) result }
     ensures later { E.faults err.old ≤ E.faults err.new }
 {
     match put_all(err, line) {
@@ -45,7 +45,7 @@ const USAGE: &[u8] =
 
 /// Puts the line that says that memory is wanted.
 fn put_memory<E: Sink>(err: &mut E) -> Status
-    ensures put { IsLinePut (failure_line Failure.Memory) Status.Memory (change E.taken E.faults err.old err.new) result }
+    ensures put { IsLinePut (failure_line Failure.Memory) Status.Memory (effect E.taken E.faults err.old err.new) result }
     ensures later { E.faults err.old ≤ E.faults err.new }
 {
     put_line(b"out of memory\n", Status::Memory, err)
@@ -54,7 +54,7 @@ fn put_memory<E: Sink>(err: &mut E) -> Status
 /// Puts the line of a failure. Where there is no memory for it, the line that says so is put.
 fn put_failure<E: Sink>(alloc: Global, failure: &Failure, err: &mut E) -> Status
     requires { FailureIsNamed failure.now }
-    ensures put { IsFailurePut failure.now (change E.taken E.faults err.old err.new) result }
+    ensures put { IsFailurePut failure.now (effect E.taken E.faults err.old err.new) result }
     ensures later { E.faults err.old ≤ E.faults err.new }
 {
     match failure {
@@ -76,7 +76,7 @@ pub(crate) fn deliver<O: Sink, E: Sink>(
     err: &mut E,
 ) -> Status
     requires { IfErr answer.now FailureIsNamed }
-    ensures delivered { IsDelivered answer.now (change O.taken O.faults out.old out.new) (change E.taken E.faults err.old err.new) result }
+    ensures delivered { IsDelivered answer.now (effect O.taken O.faults out.old out.new) (effect E.taken E.faults err.old err.new) result }
     ensures out_untouched { OnErr answer.now (out.new ≡ out.old) }
     ensures err_untouched { IfOk answer.now (λ _. (result ≡ Status.WriteFault) ⊎ (err.new ≡ err.old)) }
     ensures out_faults { O.faults out.old ≤ O.faults out.new }

@@ -1,7 +1,7 @@
 //! Finds the answer of a command, which is still to be written.
 
 ghost use Rattle.std.specs.Prelude.{◌≡◌, ◌≤◌, None, Some};
-ghost use Rattle.nego_cli.specs.Change.{change};
+ghost use Rattle.nego_cli.specs.Effect.{effect};
 ghost use Rattle.nego_cli.specs.Commands.{parts_of, asked, most_parts};
 ghost use Rattle.nego_cli.specs.Answer.{IsFound};
 ghost use Rattle.nego_cli.specs.Dispatch.{IsAnswer};
@@ -18,7 +18,7 @@ use std::alloc::Global;
 
 /// The answer of the command: one arm for each that is built.
 fn answer<S: Source>(alloc: Global, command: &Command, source: &mut S) -> Result<Answer, Failure>
-    ensures found { IsAnswer command.now (change S.left S.faults source.old source.new) result }
+    ensures found { IsAnswer command.now (effect S.left S.faults source.old source.new) result }
     ensures untouched { most_parts (Some command.now) ≡ 0 → source.new ≡ source.old }
     ensures later { S.faults source.old ≤ S.faults source.new }
 {
@@ -35,7 +35,7 @@ pub(crate) fn find_answer<S: Source>(
     words: &[Text],
     source: &mut S,
 ) -> Result<Answer, Failure>
-    ensures found { IsFound words.now (change S.left S.faults source.old source.new) result }
+    ensures found { IsFound words.now (effect S.left S.faults source.old source.new) result }
     ensures untouched { most_parts (asked words.now) ≡ 0 → source.new ≡ source.old }
     ensures later { S.faults source.old ≤ S.faults source.new }
 {

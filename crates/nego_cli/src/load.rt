@@ -3,7 +3,7 @@
 ghost use Rattle.std.specs.Prelude.{◌≡◌, ◌<◌, ◌-◌, ◌^◌, [], ◌∷◌, length, IfOk, IfErr, ◌≤◌};
 ghost use Rattle.nego_reader.specs.Content.{content_of};
 ghost use Rattle.nego_shape.specs.Shaped.{HasNameWords};
-ghost use Rattle.nego_cli.specs.Change.{change};
+ghost use Rattle.nego_cli.specs.Effect.{effect};
 ghost use Rattle.nego_cli.specs.Parts.{HasRead, ReadPart};
 ghost use Rattle.nego_cli.specs.Loading.{HasNoPart, HasLoaded, HasNotLoaded, IsDiagramOf, IsUnspelled, IsShapeOf, HasNoShape};
 
@@ -21,8 +21,8 @@ const PART_LIMIT: u32 = 262_144;
 /// Reads the part of this name that the input begins with.
 fn load_part<S: Source>(alloc: Global, name: PartName, source: &mut S) -> Result<Part, Failure>
     ensures fits { IfOk result (λ part. length part.bytes < 2 ^ 32 - 1) }
-    ensures ok { IfOk result (λ part. HasRead (ReadPart part.bytes ∷ []) (change S.left S.faults source.old source.new)) }
-    ensures err { IfErr result (HasNoPart name (change S.left S.faults source.old source.new)) }
+    ensures ok { IfOk result (λ part. HasRead (ReadPart part.bytes ∷ []) (effect S.left S.faults source.old source.new)) }
+    ensures err { IfErr result (HasNoPart name (effect S.left S.faults source.old source.new)) }
     ensures later { S.faults source.old ≤ S.faults source.new }
 {
     match read_part(alloc, source, PART_LIMIT) {
@@ -35,7 +35,7 @@ fn load_part<S: Source>(alloc: Global, name: PartName, source: &mut S) -> Result
 }
 
 /// The diagram that the text spells.
-fn diagram_of(alloc: Global, text: &[u8]) -> Result<Diagram, Failure>
+fn spelled_diagram(alloc: Global, text: &[u8]) -> Result<Diagram, Failure>
     requires { length text.now < 2 ^ 32 - 1 }
     ensures ok { IfOk result (IsDiagramOf text.now) }
     ensures err { IfErr result (IsUnspelled text.now) }
@@ -64,10 +64,10 @@ fn shaped(alloc: Global, parsed: Parsed) -> Result<Diagram, Failure>
 
 /// Reads the diagram that the input begins with.
 pub(crate) fn load<S: Source>(alloc: Global, source: &mut S) -> Result<Diagram, Failure>
-    ensures ok { IfOk result (HasLoaded (change S.left S.faults source.old source.new)) }
-    ensures err { IfErr result (HasNotLoaded (change S.left S.faults source.old source.new)) }
+    ensures ok { IfOk result (HasLoaded (effect S.left S.faults source.old source.new)) }
+    ensures err { IfErr result (HasNotLoaded (effect S.left S.faults source.old source.new)) }
     ensures later { S.faults source.old ≤ S.faults source.new }
 {
     let part = load_part(alloc, PartName::Diagram, source)?;
-    diagram_of(alloc, &part.bytes)
+    spelled_diagram(alloc, &part.bytes)
 }

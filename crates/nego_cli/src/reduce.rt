@@ -1,7 +1,7 @@
 //! `reduce`: the reduction of a diagram.
 
 ghost use Rattle.std.specs.Prelude.{◌≡◌, [], IfOk, IfErr};
-ghost use Rattle.nego_cli.specs.Turn.{Tells};
+ghost use Rattle.nego_cli.specs.Turn.{TellsText};
 ghost use Rattle.nego_cli.specs.Reduce.{ReduceTurn, ReduceText, HasNotReduced};
 
 use crate::Status;
@@ -16,7 +16,7 @@ use std::alloc::Global;
 
 /// Reduces the diagram.
 pub(crate) fn reduce(alloc: Global, d: Diagram) -> Result<Answer, Failure>
-    ensures turn { IfOk result (λ _. ReduceTurn d [] Tells) }
+    ensures turn { IfOk result (λ _. ReduceTurn d [] TellsText) }
     ensures ok { IfOk result (λ answer. ReduceText d [] answer.status answer.text) }
     ensures err { IfErr result (HasNotReduced d) }
 {

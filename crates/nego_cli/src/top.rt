@@ -2,9 +2,9 @@
 
 ghost use Rattle.std.specs.Prelude.{◌≡◌, ◌⊎◌, ℕ, ◌≤◌, List, None};
 ghost use Rattle.nego_io.specs.Outside.{WhereTold};
-ghost use Rattle.nego_cli.specs.Change.{Failed, change};
+ghost use Rattle.nego_cli.specs.Effect.{HasFaulted, effect};
 ghost use Rattle.nego_cli.specs.Parts.{reads_at};
-ghost use Rattle.nego_cli.specs.Turn.{Tells, Refuses};
+ghost use Rattle.nego_cli.specs.Turn.{TellsText, Refuses};
 ghost use Rattle.nego_cli.specs.Commands.{TurnOf, asked, Asks, most_parts};
 ghost use Rattle.nego_cli.specs.Answer.{Says, ShowsLine, ShowsText, FailsToRead};
 
@@ -25,25 +25,25 @@ pub fn nego<S: Source, O: Sink, E: Sink>(
     err: &mut E,
 ) -> Status
     // What was put on `out` and `err`, what is left of the source, and why.
-    ensures says { Says words.now (change S.left S.faults source.old source.new) (change O.taken O.faults out.old out.new) (change E.taken E.faults err.old err.new) result }
+    ensures says { Says words.now (effect S.left S.faults source.old source.new) (effect O.taken O.faults out.old out.new) (effect E.taken E.faults err.old err.new) result }
 
     // Where the words are no command that is built, the usage line is shown.
-    ensures usage { asked words.now ≡ None → ShowsLine Failure.Words (change O.taken O.faults out.old out.new) (change E.taken E.faults err.old err.new) result }
+    ensures usage { asked words.now ≡ None → ShowsLine Failure.Words (effect O.taken O.faults out.old out.new) (effect E.taken E.faults err.old err.new) result }
 
     // Where the command that they are refuses what the input begins with, the refusal's line is shown, or a call of the
     // source failed.
     ensures refusal { WhereTold (S.left source.old) (S.left source.new) (λ input _. (command : Command) (n : ℕ) (why : Refusal) → Asks words.now command → TurnOf command (reads_at n input) (Refuses why) →
-        ShowsLine (Failure.Refused why) (change O.taken O.faults out.old out.new) (change E.taken E.faults err.old err.new) result ⊎ FailsToRead (change S.left S.faults source.old source.new) result) }
+        ShowsLine (Failure.Refused why) (effect O.taken O.faults out.old out.new) (effect E.taken E.faults err.old err.new) result ⊎ FailsToRead (effect S.left S.faults source.old source.new) result) }
 
     // Where it takes what the input begins with, its text is shown, or a call of the source failed.
-    ensures text { WhereTold (S.left source.old) (S.left source.new) (λ input _. (command : Command) (n : ℕ) → Asks words.now command → TurnOf command (reads_at n input) Tells →
-        ShowsText command (reads_at n input) (change O.taken O.faults out.old out.new) (change E.taken E.faults err.old err.new) result ⊎ FailsToRead (change S.left S.faults source.old source.new) result) }
+    ensures text { WhereTold (S.left source.old) (S.left source.new) (λ input _. (command : Command) (n : ℕ) → Asks words.now command → TurnOf command (reads_at n input) TellsText →
+        ShowsText command (reads_at n input) (effect O.taken O.faults out.old out.new) (effect E.taken E.faults err.old err.new) result ⊎ FailsToRead (effect S.left S.faults source.old source.new) result) }
 
     // What has no part in the answer stays as it is, whether it tells or not: the source where the command that is asked
     // for reads no part, `out` where no text is put there, and `err` where the text is on `out`.
     ensures source_untouched { most_parts (asked words.now) ≡ 0 → source.new ≡ source.old }
     ensures out_untouched { (result ≡ Status.Done)
-        ⊎ (((result ≡ Status.WriteFault) × Failed (change O.taken O.faults out.old out.new)) ⊎ (out.new ≡ out.old)) }
+        ⊎ (((result ≡ Status.WriteFault) × HasFaulted (effect O.taken O.faults out.old out.new)) ⊎ (out.new ≡ out.old)) }
     ensures err_untouched { result ≡ Status.Done → err.new ≡ err.old }
 
     // No count of faults falls.

@@ -126,7 +126,7 @@ pub(crate) const BAD_WORDS: Call = Call {
 };
 
 /// The words of a line, which stand between its blanks.
-pub(crate) fn words_of(alloc: Global, line: &str) -> Result<Seq<Text>, Memory> {
+pub(crate) fn words_in(alloc: Global, line: &str) -> Result<Seq<Text>, Memory> {
     let mut words = Seq::new(alloc);
     for word in line.split(' ') {
         words.push(Text::copy(alloc, word.as_bytes())?)?;
@@ -156,7 +156,7 @@ pub(crate) fn answers_to(
     table: &str,
     i: usize,
 ) -> Result<(), Fail> {
-    let words = words_of(alloc, call.words)?;
+    let words = words_in(alloc, call.words)?;
     let mut source = MemSource::new(input, Seq::copy_of(alloc, call.source_fails)?);
     let mut out = MemSink::new(alloc, Seq::copy_of(alloc, call.out_fails)?)?;
     let mut err = MemSink::new(alloc, Seq::copy_of(alloc, call.err_fails)?)?;

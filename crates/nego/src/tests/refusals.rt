@@ -1,9 +1,13 @@
 //! Lines of refusals, and faults of the streams.
 
-use crate::tests::calls::{Call, REDUCED, REFUSED, SET};
+use crate::tests::calls::{Call, REDUCED, REFUSED, SET, answers_to};
+use nego_base::{Memory, Text};
+use std::alloc::Global;
+use std::process::Abort;
+use std::test::Fail;
 
 /// What is refused.
-pub(crate) static REFUSALS: [Call; 29] = [
+pub(crate) static REFUSALS: [Call; 17] = [
     Call {
         input: b"nego 1
 agent a 2
@@ -172,71 +176,6 @@ end
         input: b"nego 3
 agent a 2
 atom only a
-out set
-case : a:=1
-first only
-last only
-end
-",
-        err: b"refused diagram line 1 column 6 Version\n",
-        ..REFUSED
-    },
-    Call {
-        input: b"nego 1
-agent a 01
-atom only a
-out set
-case : a:=1
-first only
-last only
-end
-",
-        err: b"refused diagram line 2 column 9 Number\n",
-        ..REFUSED
-    },
-    Call {
-        input: b"nego 1
-agent A 2
-atom only a
-out set
-case : a:=1
-first only
-last only
-end
-",
-        err: b"refused diagram line 2 column 7 Name\n",
-        ..REFUSED
-    },
-    Call {
-        input: b"nego 1
-agent a 2
-atom only a
-out set
-case a=0 a:=1
-first only
-last only
-end
-",
-        err: b"refused diagram line 5 column 1 Case\n",
-        ..REFUSED
-    },
-    Call {
-        input: b"nego 1
-agent a 2
-foo
-out set
-case : a:=1
-first only
-last only
-end
-",
-        err: b"refused diagram line 3 column 1 Word\n",
-        ..REFUSED
-    },
-    Call {
-        input: b"nego 3
-agent a 2
-atom only a
 out s\x07t
 case : a:=1
 first only
@@ -244,98 +183,6 @@ last only
 end
 ",
         err: b"refused diagram line 4 column 6 Byte\n",
-        ..REFUSED
-    },
-    Call {
-        input: b"nego 1
-agent a
-atom only a
-out set
-case : a:=1
-first only
-last only
-end
-",
-        err: b"refused diagram line 2 column 8 Count\n",
-        ..REFUSED
-    },
-    Call {
-        input: b"nego 1
-agent a 2 3
-atom only a
-out set
-case : a:=1
-first only
-last only
-end
-",
-        err: b"refused diagram line 2 column 11 Count\n",
-        ..REFUSED
-    },
-    Call {
-        input: b"nego 1
-agent a 2
-atom only a
-out set
-case : a:=1
-first other
-last only
-end
-",
-        err: b"refused diagram line 6 Unknown other\n",
-        ..REFUSED
-    },
-    Call {
-        input: b"nego 1
-agent a 2
-atom only a
-out set
-case : a:=2
-first only
-last only
-end
-",
-        err: b"refused diagram line 5 ValueTooLarge only.set a\n",
-        ..REFUSED
-    },
-    Call {
-        input: b"nego 1
-agent a 65
-atom only a
-out set
-case : a:=1
-first only
-last only
-end
-",
-        err: b"refused diagram line 2 SizeTooLarge a\n",
-        ..REFUSED
-    },
-    Call {
-        input: b"nego 1
-agent a 2
-agent b 1
-atom only a
-out set
-case : a:=1
-first only
-last only
-end
-",
-        err: b"refused diagram line 7 FirstLacks b\n",
-        ..REFUSED
-    },
-    Call {
-        input: b"nego 1
-agent a 2
-atom only a
-out set
-case a=0 : a:=1
-first only
-last only
-end
-",
-        err: b"refused diagram line 4 NotTotal only.set 1\n",
         ..REFUSED
     },
     // The fault of shape comes before the second next atom, and faults of the grammar before both.
@@ -471,6 +318,24 @@ end
     },
 ];
 
+/// A line of `set.nego`, counted from 1, with what stands in its place, and what is told of it.
+type Row = (usize, &'static [u8], &'static [u8]);
+
+static LINES: [Row; 12] = [
+    (1, b"nego 3\n", b"refused diagram line 1 column 6 Version\n"),
+    (2, b"agent a 01\n", b"refused diagram line 2 column 9 Number\n"),
+    (2, b"agent A 2\n", b"refused diagram line 2 column 7 Name\n"),
+    (5, b"case a=0 a:=1\n", b"refused diagram line 5 column 1 Case\n"),
+    (3, b"foo\n", b"refused diagram line 3 column 1 Word\n"),
+    (2, b"agent a\n", b"refused diagram line 2 column 8 Count\n"),
+    (2, b"agent a 2 3\n", b"refused diagram line 2 column 11 Count\n"),
+    (6, b"first other\n", b"refused diagram line 6 Unknown other\n"),
+    (5, b"case : a:=2\n", b"refused diagram line 5 ValueTooLarge only.set a\n"),
+    (2, b"agent a 65\n", b"refused diagram line 2 SizeTooLarge a\n"),
+    (2, b"agent a 2\nagent b 1\n", b"refused diagram line 7 FirstLacks b\n"),
+    (5, b"case a=0 : a:=1\n", b"refused diagram line 4 NotTotal only.set 1\n"),
+];
+
 /// Faults of the source and of the sinks.
 pub(crate) static FAULTS: [Call; 4] = [
     Call {
@@ -502,3 +367,24 @@ pub(crate) static FAULTS: [Call; 4] = [
         ..REFUSED
     },
 ];
+
+/// That each of these lines is refused so.
+pub(crate) fn lines_are_refused(rt: &impl Abort, alloc: Global) -> Result<(), Fail> {
+    for (i, (n, line, want)) in LINES.iter().enumerate() {
+        let call = Call {
+            err: want,
+            ..REFUSED
+        };
+        answers_to(rt, alloc, &call, with_line(alloc, *n, line)?, "line", i)?;
+    }
+    Ok(())
+}
+
+/// `set.nego` with this in place of its line of that number.
+fn with_line(alloc: Global, n: usize, line: &[u8]) -> Result<Text, Memory> {
+    let mut text = Text::new(alloc);
+    for (i, old) in SET.split_inclusive(|b| *b == b'\n').enumerate() {
+        text.extend_from_slice(if i + 1 == n { line } else { old })?;
+    }
+    Ok(text)
+}

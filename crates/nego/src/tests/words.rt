@@ -1,6 +1,6 @@
 //! What words say.
 
-use crate::tests::calls::words_of;
+use crate::tests::calls::words_in;
 use nego_base::{Memory, Seq, Text};
 use nego_cli::{Command, WordsAnswer};
 use std::alloc::Global;
@@ -136,12 +136,12 @@ fn list_of(alloc: Global, words: &[&str]) -> Result<Seq<Text>, Memory> {
 /// That all these words are read so.
 pub(crate) fn words_are_read(rt: &impl Abort, alloc: Global) -> Result<(), Fail> {
     for (line, said) in &COMMANDS {
-        let words = words_of(alloc, line)?;
+        let words = words_in(alloc, line)?;
         let command = nego_cli::words_of(alloc, &words)?;
         assert!(rt; is_said(*said, &command), "{line}");
     }
     for line in &NO_COMMANDS {
-        let words = words_of(alloc, line)?;
+        let words = words_in(alloc, line)?;
         assert!(rt; are_refused(alloc, &words), "{line}");
     }
     for (i, list) in ODD.iter().enumerate() {

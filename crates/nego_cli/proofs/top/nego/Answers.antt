@@ -1,40 +1,40 @@
-use Rattle.nego_cli.specs.Change.{change}
+use Rattle.nego_cli.specs.Effect.{effect}
 use Rattle.nego_cli.proofs.Ends.{what_is_said, usage_shown, refusal_shown, text_shown}
 use Rattle.nego_cli.proofs.Found.{found_named}
 use Rattle.nego_cli.proofs.top.nego.Goals as goal
 
 pub deliver-requires : goal.deliver-requires
 deliver-requires g c =
-    found_named c.args.words.now (change g.S.Source.left g.S.Source.faults c.args.source.now c.find_answer-answer.new.source) c.find_answer-answer.result c.find_answer-answer.ensures.found
+    found_named c.args.words.now (effect g.S.Source.left g.S.Source.faults c.args.source.now c.find_answer-answer.new.source) c.find_answer-answer.result c.find_answer-answer.ensures.found
 
 pub returns-clause-says : goal.returns-clause-says
 returns-clause-says g c =
     what_is_said c.args.words.now
-    (change g.S.Source.left g.S.Source.faults c.args.source.now c.find_answer-answer.new.source)
-    (change g.O.Sink.taken g.O.Sink.faults c.args.out.now c.deliver.new.out)
-    (change g.E.Sink.taken g.E.Sink.faults c.args.err.now c.deliver.new.err)
+    (effect g.S.Source.left g.S.Source.faults c.args.source.now c.find_answer-answer.new.source)
+    (effect g.O.Sink.taken g.O.Sink.faults c.args.out.now c.deliver.new.out)
+    (effect g.E.Sink.taken g.E.Sink.faults c.args.err.now c.deliver.new.err)
     c.find_answer-answer.result c.deliver.result c.find_answer-answer.ensures.found c.deliver.ensures.delivered
 
 pub returns-clause-usage : goal.returns-clause-usage
 returns-clause-usage g c =
     usage_shown c.args.words.now
-    (change g.S.Source.left g.S.Source.faults c.args.source.now c.find_answer-answer.new.source)
-    (change g.O.Sink.taken g.O.Sink.faults c.args.out.now c.deliver.new.out)
-    (change g.E.Sink.taken g.E.Sink.faults c.args.err.now c.deliver.new.err)
+    (effect g.S.Source.left g.S.Source.faults c.args.source.now c.find_answer-answer.new.source)
+    (effect g.O.Sink.taken g.O.Sink.faults c.args.out.now c.deliver.new.out)
+    (effect g.E.Sink.taken g.E.Sink.faults c.args.err.now c.deliver.new.err)
     c.find_answer-answer.result c.deliver.result c.find_answer-answer.ensures.found c.deliver.ensures.delivered
 
 pub returns-clause-refusal : goal.returns-clause-refusal
 returns-clause-refusal g c =
     refusal_shown c.args.words.now
-    (change g.S.Source.left g.S.Source.faults c.args.source.now c.find_answer-answer.new.source)
-    (change g.O.Sink.taken g.O.Sink.faults c.args.out.now c.deliver.new.out)
-    (change g.E.Sink.taken g.E.Sink.faults c.args.err.now c.deliver.new.err)
+    (effect g.S.Source.left g.S.Source.faults c.args.source.now c.find_answer-answer.new.source)
+    (effect g.O.Sink.taken g.O.Sink.faults c.args.out.now c.deliver.new.out)
+    (effect g.E.Sink.taken g.E.Sink.faults c.args.err.now c.deliver.new.err)
     c.find_answer-answer.result c.deliver.result c.find_answer-answer.ensures.found c.deliver.ensures.delivered
 
 pub returns-clause-text : goal.returns-clause-text
 returns-clause-text g c =
     text_shown c.args.words.now
-    (change g.S.Source.left g.S.Source.faults c.args.source.now c.find_answer-answer.new.source)
-    (change g.O.Sink.taken g.O.Sink.faults c.args.out.now c.deliver.new.out)
-    (change g.E.Sink.taken g.E.Sink.faults c.args.err.now c.deliver.new.err)
+    (effect g.S.Source.left g.S.Source.faults c.args.source.now c.find_answer-answer.new.source)
+    (effect g.O.Sink.taken g.O.Sink.faults c.args.out.now c.deliver.new.out)
+    (effect g.E.Sink.taken g.E.Sink.faults c.args.err.now c.deliver.new.err)
     c.find_answer-answer.result c.deliver.result c.find_answer-answer.ensures.found c.deliver.ensures.delivered

@@ -1,5 +1,5 @@
 use Rattle.nego.proofs.Behind.{next_taken, none_left}
-use Rattle.nego.proofs.words.words_of.Goals as goal
+use Rattle.nego.proofs.words.argument_words.Goals as goal
 
 pub loop-words-preserved : goal.loop-words-preserved
 loop-words-preserved g c =

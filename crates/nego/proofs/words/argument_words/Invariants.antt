@@ -1,5 +1,5 @@
 use Rattle.std.proofs.Common.{◌≡◌, IfSome, drop, take, ◌-◌, ◌^◌, length}
-use Rattle.nego.proofs.words.words_of.Given as goal
+use Rattle.nego.proofs.words.argument_words.Given as goal
 
 abbrev pub invariant-loop-words : goal.invariant-loop-words
 invariant-loop-words g l = IfSome (g.A.Arguments.told l.arguments) (λ all. l.words ≡ take (length l.words) (drop 1 all))
