@@ -160,10 +160,6 @@ rest-ends (suc most) rest other none same short =
     cc (sym (within-some most rest begins) ∙ none)))
 
 module _ (most : ℕ) (file : List ℕ) (p : Parts most file) where
-  -- where the rest begins
-  pub rest_at : ℕ
-  rest_at = 128 * length p.recs
-
   pub place-rest : length (open_slots p.recs) ≡ 128 * length p.recs
   place-rest = length-open_slots p.recs p.whole
 

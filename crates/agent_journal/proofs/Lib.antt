@@ -1,4 +1,3 @@
-pub mod DiskLaws
 pub mod FileLaws
 pub mod LoadLaws
 pub mod PutCalls
