@@ -7,7 +7,7 @@ use Rattle.agent_msg.specs.declared.record.Record.{Record}
 use Rattle.agent_msg.specs.Records.{Entry, entry, entries, IsTidy}
 use Rattle.agent_msg.specs.Bytes.{EntryFits, SpellsEntry, entry_bytes}
 use Rattle.agent_journal.specs.Slots.{begins_kept, records_within, kept, StandsFor, IsFirstBad, IsBadFirst, SaysFirst}
-use Rattle.agent_journal.specs.Journal.{SlotFails, LoadFails}
+use Rattle.agent_journal.specs.Journal.{IsOnlyRead, SlotFails, LoadFails}
 use Rattle.agent_journal.specs.declared.fault.JournalFault.{JournalFault}
 use Rattle.agent_journal.specs.declared.fault.JournalFault.TheVariants.{DiskFault, Full, BadRecord, MustReload, Memory}
 use Rattle.nego_io.proofs.CallLaws.{read-then}
@@ -18,9 +18,10 @@ pub record AreRead (file : List ℕ) (k : ℕ) (records : List Record) : Type 0 
   pub fit : All EntryFits (entries records)
   pub split : kept file ≡ map entry_bytes (entries records) ++ records_within (10000 - k) (drop (128 * k) file)
 
--- The disk was only read so far, and where it tells these records were read of it.
+-- The disk was only read so far with no fault, and where it tells these records were read of it.
 pub record IsLoading (i : ℕ) (a b : ToldDisks) (k : ℕ) (records : List Record) : Type 0 where
   pub read : IsRead i a b
+  pub stayed : b.faults i ≡ a.faults i
   pub count : length records ≡ k
   pub tidy : All IsTidy records
   pub are : IsTrue b.telling → AreRead (a.content i) k records
@@ -89,9 +90,10 @@ module _ (i : ℕ) (a b c : ToldDisks) (k : ℕ) (records : List Record) (loadin
   rest-is : IsTrue c.telling → drop (128 * k) (b.content i) ≡ drop (128 * k) (a.content i)
   rest-is told = ap (λ (file : List ℕ). drop (128 * k) file) (told-before i a b c loading.read read told)
 
-  pub loading-more : (r : Record) → (IsTrue c.telling → SaysFirst (drop (128 * k) (b.content i)) (Some r)) → IsTidy r → IsLoading i a c (k + 1) (records ++ r ∷ [])
-  loading-more r says tidy = record {
+  pub loading-more : (r : Record) → c.faults i ≡ b.faults i → (IsTrue c.telling → SaysFirst (drop (128 * k) (b.content i)) (Some r)) → IsTidy r → IsLoading i a c (k + 1) (records ++ r ∷ [])
+  loading-more r stayed says tidy = record {
     read = read-then i a b c loading.read read;
+    stayed = stayed ∙ loading.stayed;
     count = length-append records (r ∷ []) ∙ ap (λ (n : ℕ). n + 1) loading.count;
     tidy = All-push IsTidy records r loading.tidy tidy;
     are = λ told.
@@ -103,15 +105,36 @@ module _ (i : ℕ) (a b c : ToldDisks) (k : ℕ) (records : List Record) (loadin
   loading-ends says told =
       read-shut (a.content i) k records (loading.are (read.calls.told told)) (subst (λ (file : List ℕ). SaysFirst file None) (rest-is told) (says told))
 
+  pub only-read : c.faults i ≡ b.faults i → IsOnlyRead i a c
+  only-read stayed = record { read = read-then i a b c loading.read read; stayed = stayed ∙ loading.stayed }
+
   pub loading-fails : (fault : JournalFault) → SlotFails i k b c fault → LoadFails i a c fault
-  loading-fails DiskFault rose = omega (arith, loading.read.calls.later, rose)
+  loading-fails DiskFault rose = let stayed = loading.stayed in omega (arith, stayed, rose)
   loading-fails Full none = none
-  loading-fails (BadRecord j) bad = λ told.
-      let first = subst (λ (file : List ℕ). IsBadFirst file) (rest-is told) (bad.1 told) in
-      subst (λ (n : ℕ). IsFirstBad (a.content i) n) (sym bad.0)
-      (read-bad (a.content i) k records (loading.are (read.calls.told told)) loading.count few first.counts first.none)
+  loading-fails (BadRecord j) bad = (
+    only-read bad.1.0,
+    λ told.
+        let first = subst (λ (file : List ℕ). IsBadFirst file) (rest-is told) (bad.1.1 told) in
+        subst (λ (n : ℕ). IsFirstBad (a.content i) n) (sym bad.0)
+        (read-bad (a.content i) k records (loading.are (read.calls.told told)) loading.count few first.counts first.none),
+  )
   loading-fails MustReload none = none
   loading-fails Memory none = absurd none
 
 pub loading-full : (i : ℕ) (a b : ToldDisks) (k : ℕ) (records : List Record) → IsLoading i a b k records → 10000 ≤ k → IsTrue b.telling → StandsFor (a.content i) (entries records)
 loading-full i a b k records loading full told = read-full (a.content i) k records (loading.are told) full
+
+-- A disk that was only read, and then only read more.
+only-then : (i : ℕ) (a b c : ToldDisks) → IsOnlyRead i a b → IsOnlyRead i b c → IsOnlyRead i a c
+only-then i a b c first second = record { read = read-then i a b c first.read second.read; stayed = second.stayed ∙ first.stayed }
+
+-- What a load answers after a sync, where it gives none.
+pub load-fails : (i : ℕ) (a b c : ToldDisks) → IsOnlyRead i a b → (fault : JournalFault) → LoadFails i b c fault → LoadFails i a c fault
+load-fails i a b c synced DiskFault rose = let stayed = synced.stayed in omega (arith, stayed, rose)
+load-fails i a b c synced Full none = none
+load-fails i a b c synced (BadRecord k) bad = (
+  only-then i a b c synced bad.0,
+  λ told. subst (λ (file : List ℕ). IsFirstBad file k) (synced.read.content (bad.0.read.calls.told told)) (bad.1 told),
+)
+load-fails i a b c synced MustReload none = none
+load-fails i a b c synced Memory only = only-then i a b c synced only

@@ -1,7 +1,7 @@
 -- Journals on disks that may stop at any moment.
 use Rattle.std.specs.Prelude.{◌≡◌, ℕ, ◌+◌, ◌*◌, ◌≤◌, Bool, true, false, IsTrue, ◌⊎◌, List, [], ◌∷◌, ◌++◌, length, drop, Result, Ok, Err}
 use Rattle.nego_io.specs.Outside.{Rose}
-use Rattle.nego_io.specs.Disks.{ToldDisks, LeavesNow, IsSynced}
+use Rattle.nego_io.specs.Disks.{ToldDisks, LeavesNow, IsRead, IsSynced}
 use Rattle.agent_msg.specs.Records.{Entry}
 use Rattle.agent_msg.specs.Bytes.{entry_bytes}
 use Rattle.agent_journal.specs.declared.fault.JournalFault.{JournalFault}
@@ -43,13 +43,19 @@ BeginsWith records from i d =
     IsTrue d.telling →
     (from ≤ d.moment) × ((t : ℕ) (image : List ℕ) → from ≤ t → t ≤ d.moment → d.leaves t i image → (more : List (List ℕ)) × (kept image ≡ records ++ more))
 
--- What a load answers where it gives none: a fault of the disk has its cause, and a bad record is the first one.
+-- The disk was only read, and no call on it failed.
+pub record IsOnlyRead (i : ℕ) (old new : ToldDisks) : Type 0 where
+  pub read : IsRead i old new
+  pub stayed : new.faults i ≡ old.faults i
+
+-- What a load answers where it gives none: a fault of the disk has its cause, a bad record is the first one, and it and
+-- want of memory are met before anything is written or cut.
 abbrev pub LoadFails : ℕ → ToldDisks → ToldDisks → JournalFault → Type 0
 LoadFails i old new DiskFault = Rose (old.faults i) (new.faults i)
 LoadFails i old new Full = ⊥
-LoadFails i old new (BadRecord k) = IsTrue new.telling → IsFirstBad (old.content i) k
+LoadFails i old new (BadRecord k) = IsOnlyRead i old new × (IsTrue new.telling → IsFirstBad (old.content i) k)
 LoadFails i old new MustReload = ⊥
-LoadFails i old new Memory = Unit {0}
+LoadFails i old new Memory = IsOnlyRead i old new
 
 -- What an append answers where it appends nothing: a fault of the disk has its cause.
 abbrev pub AppendFails : ℕ → ToldDisks → ToldDisks → JournalFault → Type 0
@@ -69,6 +75,6 @@ after_append (Err fault) journal = journal
 abbrev pub SlotFails : ℕ → ℕ → ToldDisks → ToldDisks → JournalFault → Type 0
 SlotFails i k old new DiskFault = Rose (old.faults i) (new.faults i)
 SlotFails i k old new Full = ⊥
-SlotFails i k old new (BadRecord j) = (j ≡ k) × (IsTrue new.telling → IsBadFirst (drop (128 * k) (old.content i)))
+SlotFails i k old new (BadRecord j) = (j ≡ k) × ((new.faults i ≡ old.faults i) × (IsTrue new.telling → IsBadFirst (drop (128 * k) (old.content i))))
 SlotFails i k old new MustReload = ⊥
 SlotFails i k old new Memory = ⊥

@@ -46,6 +46,7 @@ impl Journal {
         ensures journal { IfOk result (λ r. r.0 ≡ record { count = length r.1; failed = false }) }
         ensures settled { IfOk result (λ r. IsSettled (D.told disks.new) i (length r.1)) }
         ensures kept { IfOk result (λ r. IsTrue (D.told disks.new).telling → kept ((D.told disks.new).content i) ≡ kept ((D.told disks.old).content i)) }
+        ensures stayed { IfOk result (λ _. (D.told disks.new).faults i ≡ (D.told disks.old).faults i) }
         ensures images { LeavesOnly (KeepsSome (D.told disks.old) i) i (D.told disks.old) (D.told disks.new) }
         ensures calls { AreCallsOn i (D.told disks.old) (D.told disks.new) }
         ensures err { IfErr result (LoadFails i (D.told disks.old) (D.told disks.new)) }
@@ -79,6 +80,7 @@ impl Journal {
         ensures untouched { (self.old.failed ≡ true) ⊎ (self.old.count ≡ 10000) → disks.new ≡ disks.old }
         ensures settled { OnOk result (IsSettled (D.told disks.new) i (self.old.count + 1)) }
         ensures added { OnOk result (IsTrue (D.told disks.new).telling → kept ((D.told disks.new).content i) ≡ kept ((D.told disks.old).content i) ++ entry_bytes (entry r.now) ∷ []) }
+        ensures stayed { OnOk result ((D.told disks.new).faults i ≡ (D.told disks.old).faults i) }
         ensures images { self.old.failed ≡ false → LeavesOnly (KeepsOrAdds (kept ((D.told disks.old).content i)) (entry r.now)) i (D.told disks.old) (D.told disks.new) }
         ensures grows { (records : List (List ℕ)) (from : ℕ) → BeginsWith records from i (D.told disks.old) → BeginsWith records from i (D.told disks.new) }
         ensures calls { AreCallsOn i (D.told disks.old) (D.told disks.new) }

@@ -1,6 +1,6 @@
 //! The slots of a journal on a disk: a gate, the 127 bytes of a record, and so on.
-ghost use Rattle.std.specs.Prelude.{◌≡◌, ℕ, ◌<◌, ◌≤◌, ◌+◌, ◌*◌, ◌++◌, ◌∷◌, [], All, length, drop, take, slice_get, IsTrue, IfSome, IfOk, IfErr, OnOk, OnErr, Some};
-ghost use Rattle.nego_io.specs.Outside.{Rose};
+ghost use Rattle.std.specs.Prelude.{◌≡◌, ℕ, ◌<◌, ◌≤◌, ◌+◌, ◌*◌, ◌++◌, ◌∷◌, [], All, length, drop, take, slice_get, IsTrue, IfSome, IfOk, IfErr, OnOk, Some};
+ghost use Rattle.nego_io.specs.Outside.{HasCause};
 ghost use Rattle.nego_io.specs.Disks.{LeavesOnly, Follows, AreCallsOn, HasContent, IsRead, IsSynced, overwritten, Torn, Ragged};
 ghost use Rattle.agent_msg.specs.Records.{entry, entries, IsTidy};
 ghost use Rattle.agent_msg.specs.Bytes.{EntryFits, entry_bytes};
@@ -36,6 +36,7 @@ fn read_slot<D: Disks>(disks: &mut D, i: u32, k: u32) -> Result<Option<Record>, 
     ensures read { IsRead i (D.told disks.old) (D.told disks.new) }
     ensures ok { IfOk result (λ slot. IsTrue (D.told disks.new).telling → SaysFirst (drop (128 * k) ((D.told disks.old).content i)) slot) }
     ensures tidy { IfOk result (λ slot. IfSome slot IsTidy) }
+    ensures stayed { IfOk result (λ _. (D.told disks.new).faults i ≡ (D.told disks.old).faults i) }
     ensures err { IfErr result (SlotFails i k (D.told disks.old) (D.told disks.new)) }
 {
     let mut slot = [0; 129];
@@ -60,6 +61,7 @@ pub fn read_records<D: Disks>(
     ensures records { IfOk result (λ records. IsTrue (D.told disks.new).telling → StandsFor ((D.told disks.old).content i) (entries records)) }
     ensures count { IfOk result (λ records. length records ≤ 10000) }
     ensures tidy { IfOk result (All IsTidy) }
+    ensures stayed { IfOk result (λ _. (D.told disks.new).faults i ≡ (D.told disks.old).faults i) }
     ensures err { IfErr result (LoadFails i (D.told disks.old) (D.told disks.new)) }
 {
     let mut records = Seq::new(alloc);
@@ -80,7 +82,7 @@ fn shorten<D: Disks>(disks: &mut D, i: u32, to: u64) -> Result<(), Failed>
     ensures content { OnOk result (HasContent (D.told disks.new) i (take to ((D.told disks.old).content i))) }
     ensures synced { OnOk result (IsSynced (D.told disks.new) i) }
     ensures calls { AreCallsOn i (D.told disks.old) (D.told disks.new) }
-    ensures fault { OnErr result (Rose ((D.told disks.old).faults i) ((D.told disks.new).faults i)) }
+    ensures cause { HasCause ((D.told disks.old).faults i) ((D.told disks.new).faults i) result }
 {
     if disks.len(i)? > to {
         disks.cut(i, to)?;
@@ -98,7 +100,7 @@ fn write_through<D: Disks>(disks: &mut D, i: u32, at: u64, piece: &[u8]) -> Resu
     ensures content { OnOk result (HasContent (D.told disks.new) i (overwritten at piece.now ((D.told disks.old).content i))) }
     ensures synced { OnOk result (IsSynced (D.told disks.new) i) }
     ensures calls { AreCallsOn i (D.told disks.old) (D.told disks.new) }
-    ensures fault { OnErr result (Rose ((D.told disks.old).faults i) ((D.told disks.new).faults i)) }
+    ensures cause { HasCause ((D.told disks.old).faults i) ((D.told disks.new).faults i) result }
 {
     disks.write_at(i, at, piece)?;
     disks.sync(i)
@@ -113,7 +115,7 @@ fn close<D: Disks>(disks: &mut D, i: u32, at: u64) -> Result<(), Failed>
     ensures content { OnOk result (IsTrue (D.told disks.new).telling → Closes at ((D.told disks.old).content i) ((D.told disks.new).content i)) }
     ensures synced { OnOk result (IsSynced (D.told disks.new) i) }
     ensures calls { AreCallsOn i (D.told disks.old) (D.told disks.new) }
-    ensures fault { OnErr result (Rose ((D.told disks.old).faults i) ((D.told disks.new).faults i)) }
+    ensures cause { HasCause ((D.told disks.old).faults i) ((D.told disks.new).faults i) result }
 {
     let mut found = [OPEN];
     let n = disks.read(i, at, &mut found)?;
@@ -133,7 +135,7 @@ pub fn repair<D: Disks>(disks: &mut D, i: u32, count: u32) -> Result<(), Failed>
     ensures kept { OnOk result (IsTrue (D.told disks.new).telling → kept ((D.told disks.new).content i) ≡ kept ((D.told disks.old).content i)) }
     ensures settled { OnOk result (IsSettled (D.told disks.new) i count) }
     ensures calls { AreCallsOn i (D.told disks.old) (D.told disks.new) }
-    ensures fault { OnErr result (Rose ((D.told disks.old).faults i) ((D.told disks.new).faults i)) }
+    ensures cause { HasCause ((D.told disks.old).faults i) ((D.told disks.new).faults i) result }
 {
     shorten(disks, i, gate(count) + 1)?;
     close(disks, i, gate(count))
@@ -159,7 +161,7 @@ pub fn put<D: Disks>(disks: &mut D, i: u32, count: u32, r: &Record) -> Result<()
     ensures settled { OnOk result (IsSettled (D.told disks.new) i (count + 1)) }
     ensures added { OnOk result (IsTrue (D.told disks.new).telling → kept ((D.told disks.new).content i) ≡ kept ((D.told disks.old).content i) ++ entry_bytes (entry r.now) ∷ []) }
     ensures calls { AreCallsOn i (D.told disks.old) (D.told disks.new) }
-    ensures fault { OnErr result (Rose ((D.told disks.old).faults i) ((D.told disks.new).faults i)) }
+    ensures cause { HasCause ((D.told disks.old).faults i) ((D.told disks.new).faults i) result }
 {
     write_through(disks, i, gate(count) + 1, &closed_behind(r))?;
     write_through(disks, i, gate(count), &[OPEN])

@@ -1,6 +1,6 @@
 //! Disks over memory.
 ghost use Rattle.std.specs.Prelude.{◌≡◌, ℕ, ◌<◌, ◌≤◌, ◌+◌, ◌^◌, min, length, take, drop, ◌++◌, [], ◌∷◌, is_ok, is_err, IsErr, IsTrue, IfOk, OnOk, OnErr, Some, None};
-ghost use Rattle.nego_io.specs.Outside.{Rose};
+ghost use Rattle.nego_io.specs.Outside.{HasCause};
 ghost use Rattle.nego_io.specs.Disks.{LeavesNow, LeavesOnly, IsRead, Follows, AreCallsOn, HasContent, IsSynced, overwritten, Torn, Shortened, Ragged};
 ghost use Rattle.nego_io.specs.MemDisks.{told_of, content_now, disk_now, must_fail, no_disk_calls, after_look, after_make, filled};
 ghost use Rattle.nego_io.specs.declared.change.Step.TheVariants as steps;
@@ -145,7 +145,7 @@ impl Disks for MemDisks {
         requires { i < length self.old.first }
         ensures length { IfOk result (λ n. IsTrue (told_of self.new).telling → n ≡ length ((told_of self.old).content i)) }
         ensures read { IsRead i (told_of self.old) (told_of self.new) }
-        ensures cause { OnErr result (Rose ((told_of self.old).faults i) ((told_of self.new).faults i)) }
+        ensures cause { HasCause ((told_of self.old).faults i) ((told_of self.new).faults i) result }
 
         // It fails exactly where its number is listed or the fuse is reached.
         ensures fails { is_err result ≡ must_fail i self.old.calls }
@@ -162,7 +162,7 @@ impl Disks for MemDisks {
         ensures count { IfOk result (λ n. n ≤ length buf.new) }
         ensures bytes { IfOk result (λ n. IsTrue (told_of self.new).telling → take n buf.new ≡ take (length buf.new) (drop at ((told_of self.old).content i))) }
         ensures read { IsRead i (told_of self.old) (told_of self.new) }
-        ensures cause { OnErr result (Rose ((told_of self.old).faults i) ((told_of self.new).faults i)) }
+        ensures cause { HasCause ((told_of self.old).faults i) ((told_of self.new).faults i) result }
 
         // It fails exactly where its number is listed or the fuse is reached.
         ensures fails { is_err result ≡ must_fail i self.old.calls }
@@ -185,7 +185,7 @@ impl Disks for MemDisks {
         ensures torn { OnErr result (IsTrue (told_of self.new).telling → Torn at (length piece.now) ((told_of self.old).content i) ((told_of self.new).content i)) }
         ensures images { LeavesOnly (Follows (Torn at (length piece.now)) (told_of self.old) i) i (told_of self.old) (told_of self.new) }
         ensures calls { AreCallsOn i (told_of self.old) (told_of self.new) }
-        ensures cause { OnErr result (Rose ((told_of self.old).faults i) ((told_of self.new).faults i)) }
+        ensures cause { HasCause ((told_of self.old).faults i) ((told_of self.new).faults i) result }
 
         // It fails where its number is listed or the fuse is reached, and else only where it found no memory.
         ensures fails { IsTrue (must_fail i self.old.calls) → IsErr result }
@@ -208,7 +208,7 @@ impl Disks for MemDisks {
         ensures images { OnOk result (LeavesOnly (Follows (Shortened to) (told_of self.old) i) i (told_of self.old) (told_of self.new)) }
         ensures images_err { OnErr result (LeavesOnly (Follows (Ragged to) (told_of self.old) i) i (told_of self.old) (told_of self.new)) }
         ensures calls { AreCallsOn i (told_of self.old) (told_of self.new) }
-        ensures cause { OnErr result (Rose ((told_of self.old).faults i) ((told_of self.new).faults i)) }
+        ensures cause { HasCause ((told_of self.old).faults i) ((told_of self.new).faults i) result }
 
         // It fails where its number is listed or the fuse is reached, and else only where it found no memory.
         ensures fails { IsTrue (must_fail i self.old.calls) → IsErr result }
@@ -229,7 +229,7 @@ impl Disks for MemDisks {
         ensures content { OnOk result (HasContent (told_of self.new) i ((told_of self.old).content i)) }
         ensures images { LeavesOnly (LeavesNow (told_of self.old) i) i (told_of self.old) (told_of self.new) }
         ensures calls { AreCallsOn i (told_of self.old) (told_of self.new) }
-        ensures cause { OnErr result (Rose ((told_of self.old).faults i) ((told_of self.new).faults i)) }
+        ensures cause { HasCause ((told_of self.old).faults i) ((told_of self.new).faults i) result }
 
         // It fails where its number is listed or the fuse is reached, and else only where it found no memory.
         ensures fails { IsTrue (must_fail i self.old.calls) → IsErr result }

@@ -15,9 +15,12 @@ returns-in-Some-clause-ok g c = λ told.
 pub returns-in-None-clause-err : goal.returns-in-None-clause-err
 returns-in-None-clause-err g c = (
   refl,
-  λ told.
-      let rest = drop (128 * c.args.k) ((g.D.Disks.told c.args.disks.now).content c.args.i) in
-      let bytes = c.in_ok-n.ensures.bytes told ∙ ap (λ (n : ℕ). take (length c.read.new.buf) (drop n ((g.D.Disks.told c.args.disks.now).content c.args.i))) c.gate.ensures in
-      let read = slot-read c.read.new.buf rest c.in_ok-n.n c.read.auto.buf bytes c.if-n-lt129.false c.if-slot-ne-OPEN.false in
-      record { counts = read.0; none = λ e spells. none-some e ((c.in-None.ensures.entry e).1 (subst (λ (xs : List ℕ). SpellsEntry xs e) (sym read.1) spells)) },
+  (
+    c.in_ok-n.ensures.cause.stayed,
+    λ told.
+        let rest = drop (128 * c.args.k) ((g.D.Disks.told c.args.disks.now).content c.args.i) in
+        let bytes = c.in_ok-n.ensures.bytes told ∙ ap (λ (n : ℕ). take (length c.read.new.buf) (drop n ((g.D.Disks.told c.args.disks.now).content c.args.i))) c.gate.ensures in
+        let read = slot-read c.read.new.buf rest c.in_ok-n.n c.read.auto.buf bytes c.if-n-lt129.false c.if-slot-ne-OPEN.false in
+        record { counts = read.0; none = λ e spells. none-some e ((c.in-None.ensures.entry e).1 (subst (λ (xs : List ℕ). SpellsEntry xs e) (sym read.1) spells)) },
+  ),
 )
