@@ -1,7 +1,7 @@
 -- What steps on a file leave of its slots.
 use Rattle.std.proofs.Common.{◌≡◌, ◌≢◌, ℕ, zero, suc, ◌+◌, ◌-◌, ◌*◌, ◌<◌, ◌≤◌, ◌⊎◌, inl, inr, ⊎_elim, true, false, ◌==◌, nat_lt, eqb-true, eq-eqb, ltb-true, lt-ltb, List, [], ◌∷◌, ◌++◌, length, take, drop, refl, sym, ◌∙◌, ap, arith, Some, All, get_or, slice_get, append_assoc, length-append, length-take, length-drop, length-take-le, take-append-drop}
 use Rattle.std.proofs.lemmas.Bool.{and_parts, and_from, cases_eq}
-use Rattle.std.proofs.lemmas.List.{take_at, drop_at, drop_more, take_all, drop-drop, take-take, ext_get_or, get_or-take, get_or-drop, append-nil}
+use Rattle.std.proofs.lemmas.List.{take_at, drop_at, drop_all, drop_more, take-append-le, take_all, drop-drop, take-take, ext_get_or, get_or-take, get_or-drop, append-nil}
 use Rattle.std.proofs.lemmas.Option.{slice_get_within, get_or_from_slice_get}
 use Rattle.std.proofs.lemmas.List.Elements.{All-nil, All-cons, All-head, All-tail, All-push}
 use Rattle.nego_io.specs.Disks.{overwritten, Torn, Ragged}
@@ -147,6 +147,31 @@ closes-already at file found n is some within closed = record {
     get-dropped zero file h = h
     get-dropped (suc at) [] h = h
     get-dropped (suc at) (x ∷ xs) h = get-dropped at xs h
+
+-- Written closed again, it is as it was.
+pub closed-again : (at : ℕ) (file : List ℕ) → slice_get file at ≡ Some 0 → overwritten at (0 ∷ []) file ≡ file
+closed-again at file closed =
+    let byte : get_or file at 0 ≡ 0 = get_or_from_slice_get file at 0 0 closed in
+    let rest : drop at file ≡ 0 ∷ drop (at + 1) file = drop_more file at 0 (slice_get_within file at 0 closed) ∙ ap (λ (x : ℕ). x ∷ drop (at + 1) file) byte in
+    ap (λ (xs : List ℕ). take at file ++ xs) (sym rest) ∙ take-append-drop at file
+
+-- A file that was cut behind a gate, once that is closed.
+pub closed-end : (at : ℕ) (file : List ℕ) → overwritten at (0 ∷ []) (take (at + 1) file) ≡ take at file ++ 0 ∷ []
+closed-end at file =
+    ap (λ (xs : List ℕ). xs ++ 0 ∷ drop (at + 1) (take (at + 1) file)) (take-take at (at + 1) file (omega arith))
+    ∙ ap (λ (xs : List ℕ). take at file ++ 0 ∷ xs) (drop_all (at + 1) (take (at + 1) file) (omega (arith, length-take (at + 1) file)))
+
+-- A piece and then the byte before it are written as one piece.
+pub overwritten-both : (at x : ℕ) (piece file : List ℕ) → at < length file → overwritten at (x ∷ []) (overwritten (at + 1) piece file) ≡ overwritten at (x ∷ piece) file
+overwritten-both at x piece file there =
+    let rest : List ℕ = piece ++ drop (at + 1 + length piece) file in
+    let front : length (take (at + 1) file) ≡ at + 1 = length-take-le (at + 1) file (omega (arith, there)) in
+    let before : take at (take (at + 1) file ++ rest) ≡ take at file =
+    take-append-le at (take (at + 1) file) rest (omega (arith, front)) ∙ take-take at (at + 1) file (omega arith) in
+    let behind : at + 1 + length piece ≡ at + length (x ∷ piece) = omega arith in
+    ap (λ (xs : List ℕ). xs ++ x ∷ drop (at + 1) (take (at + 1) file ++ rest)) before
+    ∙ (ap (λ (xs : List ℕ). take at file ++ x ∷ xs) (drop_at (take (at + 1) file) rest (at + 1) front)
+    ∙ ap (λ (n : ℕ). take at file ++ x ∷ (piece ++ drop n file)) behind)
 
 -- A rest with the same first byte that isn't longer keeps nothing either.
 rest-ends : (most : ℕ) (rest other : List ℕ) → records_within most rest ≡ [] → get_or other 0 0 ≡ get_or rest 0 0 → length other ≤ length rest → records_within most other ≡ []

@@ -5,7 +5,8 @@ use Rattle.agent_msg.specs.Records.{Entry}
 use Rattle.agent_msg.specs.Bytes.{entry_bytes}
 use Rattle.agent_journal.specs.Slots.{kept, IsClosed}
 use Rattle.agent_journal.specs.Journal.{IsSettled, KeepsOrAdds}
-use Rattle.agent_journal.proofs.FileLaws.{IsWhole, gated}
+use Rattle.agent_journal.proofs.FileLaws.{IsWhole, gated, overwritten-both}
+use Rattle.std.proofs.lemmas.Option.{slice_get_within}
 use Rattle.agent_journal.proofs.PutLaws.{IsOpenEnded, open-ended, put-first, put-written, put_back, put-second, put-opened, put-kept, put-closed, put-place}
 
 -- the file with the record behind its gate
@@ -30,6 +31,16 @@ module _ (a b : ToldDisks) (i count : ℕ) (e : Entry) (calls : AreCallsOn i a b
   place-gate-now has at is told =
       subst (λ (n : ℕ). n ≤ length (b.content i)) (sym is)
       (subst (λ (xs : List ℕ). 128 * count ≤ length xs) (sym (has told)) (put-place (a.content i) count (entry_bytes e) (ready told)))
+
+  pub content-both : (slot : List ℕ) → slot ≡ entry_bytes e ++ 0 ∷ [] → (at : ℕ) → at ≡ 128 * count + 1 → HasContent b i (overwritten at slot (a.content i)) →
+      (c : ToldDisks) → AreCallsOn i b c → (gate : ℕ) → gate ≡ 128 * count → HasContent c i (overwritten gate (1 ∷ []) (b.content i)) → HasContent c i (overwritten (128 * count) (1 ∷ (entry_bytes e ++ 0 ∷ [])) (a.content i))
+  content-both slot spelled at is first c more gate gate_is second told =
+      let there = slice_get_within (a.content i) (128 * count) 0 (settled.closed (calls.told (more.told told))) in
+      let was : b.content i ≡ overwritten (128 * count + 1) (entry_bytes e ++ 0 ∷ []) (a.content i) =
+      first (more.told told) ∙ (ap (λ (n : ℕ). overwritten n slot (a.content i)) is ∙ ap (λ (xs : List ℕ). overwritten (128 * count + 1) xs (a.content i)) spelled) in
+      second told
+      ∙ (ap (λ (n : ℕ). overwritten n (1 ∷ []) (b.content i)) gate_is
+      ∙ (ap (λ (xs : List ℕ). overwritten (128 * count) (1 ∷ []) xs) was ∙ overwritten-both (128 * count) 1 (entry_bytes e ++ 0 ∷ []) (a.content i) there))
 
   module _ (c : ToldDisks) (more : AreCallsOn i b c) (whole : IsWhole (entry_bytes e)) (few : count < 10000) (at : ℕ) (is : at ≡ 128 * count) (has : HasContent b i (with_gate 0 (a.content i) count e)) where
     pub images-gate : LeavesOnly (Torn at 1 (b.content i)) i b c → LeavesOnly (KeepsOrAdds (kept (a.content i)) e) i b c

@@ -1,10 +1,10 @@
 -- The calls that repair the end of a journal.
-use Rattle.std.proofs.Common.{◌≡◌, ℕ, ◌+◌, ◌*◌, ◌≤◌, IsTrue, List, length, take, sym, ◌∙◌, ap, subst, arith, length-take, slice_get, Some}
+use Rattle.std.proofs.Common.{◌≡◌, ℕ, ◌+◌, ◌*◌, ◌≤◌, IsTrue, List, [], ◌∷◌, ◌++◌, length, take, sym, ◌∙◌, ap, subst, arith, length-take, slice_get, Some}
 use Rattle.std.proofs.lemmas.List.{take-take}
-use Rattle.nego_io.specs.Disks.{ToldDisks, LeavesOnly, AreCallsOn, HasContent, IsSynced, Torn, Ragged}
+use Rattle.nego_io.specs.Disks.{ToldDisks, LeavesOnly, AreCallsOn, HasContent, IsSynced, overwritten, Torn, Ragged}
 use Rattle.agent_journal.specs.Slots.{kept, Closes}
 use Rattle.agent_journal.specs.Journal.{IsSettled, KeepsAll}
-use Rattle.agent_journal.proofs.FileLaws.{parts, ragged-keeps, torn-short, length-file}
+use Rattle.agent_journal.proofs.FileLaws.{parts, ragged-keeps, torn-short, length-file, closed-end}
 
 many : (file : List ℕ) (count : ℕ) → length (kept file) ≡ count → count ≡ length (parts 10000 file).recs
 many file count all = sym all ∙ ap (λ (rs : List (List ℕ)). length rs) (parts 10000 file).are
@@ -68,3 +68,9 @@ module _ (a b : ToldDisks) (i count : ℕ) (calls : AreCallsOn i a b) (all : IsT
         all = λ told. ap (λ (rs : List (List ℕ)). length rs) (kept-close closes told) ∙ all (calls.told (more.told told));
         closed = λ told. subst (λ (n : ℕ). slice_get (c.content i) n ≡ Some 0) gate_is (closes told).closed;
       }
+
+      pub content-close : HasContent c i (overwritten gate (0 ∷ []) (b.content i)) → HasContent c i (take (128 * count) (a.content i) ++ 0 ∷ [])
+      content-close now told =
+          now told
+          ∙ (ap (λ (n : ℕ). overwritten n (0 ∷ []) (b.content i)) gate_is
+          ∙ (ap (λ (xs : List ℕ). overwritten (128 * count) (0 ∷ []) xs) (content-cut (more.told told)) ∙ closed-end (128 * count) (a.content i)))

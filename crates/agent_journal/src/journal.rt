@@ -1,6 +1,6 @@
 //! An agent's journal.
-ghost use Rattle.std.specs.Prelude.{◌≡◌, ℕ, ◌<◌, ◌≤◌, ◌+◌, ◌++◌, ◌∷◌, [], ◌↔◌, ◌⊎◌, false, true, All, length, List, IsTrue, IfOk, IfErr, OnOk, OnErr};
-ghost use Rattle.nego_io.specs.Disks.{LeavesOnly, AreCallsOn};
+ghost use Rattle.std.specs.Prelude.{◌≡◌, ℕ, ◌<◌, ◌≤◌, ◌+◌, ◌*◌, ◌++◌, ◌∷◌, [], ◌↔◌, ◌⊎◌, false, true, All, length, take, List, IsTrue, IfOk, IfErr, OnOk, OnErr};
+ghost use Rattle.nego_io.specs.Disks.{LeavesOnly, AreCallsOn, HasContent, overwritten};
 ghost use Rattle.agent_msg.specs.Records.{entry, entries, IsTidy};
 ghost use Rattle.agent_msg.specs.Bytes.{EntryFits, entry_bytes};
 ghost use Rattle.agent_journal.specs.Slots.{kept, StandsFor};
@@ -45,6 +45,7 @@ impl Journal {
         ensures tidy { IfOk result (λ r. All IsTidy r.1) }
         ensures journal { IfOk result (λ r. r.0 ≡ record { count = length r.1; failed = false }) }
         ensures settled { IfOk result (λ r. IsSettled (D.told disks.new) i (length r.1)) }
+        ensures content { IfOk result (λ r. HasContent (D.told disks.new) i (take (128 * length r.1) ((D.told disks.old).content i) ++ 0 ∷ [])) }
         ensures kept { IfOk result (λ r. IsTrue (D.told disks.new).telling → kept ((D.told disks.new).content i) ≡ kept ((D.told disks.old).content i)) }
         ensures stayed { IfOk result (λ _. (D.told disks.new).faults i ≡ (D.told disks.old).faults i) }
         ensures images { LeavesOnly (KeepsSome (D.told disks.old) i) i (D.told disks.old) (D.told disks.new) }
@@ -79,6 +80,7 @@ impl Journal {
         ensures err { IfErr result (AppendFails i (D.told disks.old) (D.told disks.new)) }
         ensures untouched { (self.old.failed ≡ true) ⊎ (self.old.count ≡ 10000) → disks.new ≡ disks.old }
         ensures settled { OnOk result (IsSettled (D.told disks.new) i (self.old.count + 1)) }
+        ensures content { OnOk result (HasContent (D.told disks.new) i (overwritten (128 * self.old.count) (1 ∷ (entry_bytes (entry r.now) ++ 0 ∷ [])) ((D.told disks.old).content i))) }
         ensures added { OnOk result (IsTrue (D.told disks.new).telling → kept ((D.told disks.new).content i) ≡ kept ((D.told disks.old).content i) ++ entry_bytes (entry r.now) ∷ []) }
         ensures stayed { OnOk result ((D.told disks.new).faults i ≡ (D.told disks.old).faults i) }
         ensures images { self.old.failed ≡ false → LeavesOnly (KeepsOrAdds (kept ((D.told disks.old).content i)) (entry r.now)) i (D.told disks.old) (D.told disks.new) }

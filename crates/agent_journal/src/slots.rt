@@ -112,7 +112,8 @@ fn close<D: Disks>(disks: &mut D, i: u32, at: u64) -> Result<(), Failed>
     requires synced { IsSynced (D.told disks.old) i }
     requires within { IsTrue (D.told disks.old).telling → at ≤ length ((D.told disks.old).content i) }
     ensures images { LeavesOnly (Torn at 1 ((D.told disks.old).content i)) i (D.told disks.old) (D.told disks.new) }
-    ensures content { OnOk result (IsTrue (D.told disks.new).telling → Closes at ((D.told disks.old).content i) ((D.told disks.new).content i)) }
+    ensures content { OnOk result (HasContent (D.told disks.new) i (overwritten at (0 ∷ []) ((D.told disks.old).content i))) }
+    ensures closes { OnOk result (IsTrue (D.told disks.new).telling → Closes at ((D.told disks.old).content i) ((D.told disks.new).content i)) }
     ensures synced { OnOk result (IsSynced (D.told disks.new) i) }
     ensures calls { AreCallsOn i (D.told disks.old) (D.told disks.new) }
     ensures cause { HasCause ((D.told disks.old).faults i) ((D.told disks.new).faults i) result }
@@ -132,6 +133,7 @@ pub fn repair<D: Disks>(disks: &mut D, i: u32, count: u32) -> Result<(), Failed>
     requires synced { IsSynced (D.told disks.old) i }
     requires all { IsTrue (D.told disks.old).telling → length (kept ((D.told disks.old).content i)) ≡ count }
     ensures images { LeavesOnly (KeepsAll (kept ((D.told disks.old).content i))) i (D.told disks.old) (D.told disks.new) }
+    ensures content { OnOk result (HasContent (D.told disks.new) i (take (128 * count) ((D.told disks.old).content i) ++ 0 ∷ [])) }
     ensures kept { OnOk result (IsTrue (D.told disks.new).telling → kept ((D.told disks.new).content i) ≡ kept ((D.told disks.old).content i)) }
     ensures settled { OnOk result (IsSettled (D.told disks.new) i count) }
     ensures calls { AreCallsOn i (D.told disks.old) (D.told disks.new) }
@@ -159,6 +161,7 @@ pub fn put<D: Disks>(disks: &mut D, i: u32, count: u32, r: &Record) -> Result<()
     requires settled { IsSettled (D.told disks.old) i count }
     ensures images { LeavesOnly (KeepsOrAdds (kept ((D.told disks.old).content i)) (entry r.now)) i (D.told disks.old) (D.told disks.new) }
     ensures settled { OnOk result (IsSettled (D.told disks.new) i (count + 1)) }
+    ensures content { OnOk result (HasContent (D.told disks.new) i (overwritten (128 * count) (1 ∷ (entry_bytes (entry r.now) ++ 0 ∷ [])) ((D.told disks.old).content i))) }
     ensures added { OnOk result (IsTrue (D.told disks.new).telling → kept ((D.told disks.new).content i) ≡ kept ((D.told disks.old).content i) ++ entry_bytes (entry r.now) ∷ []) }
     ensures calls { AreCallsOn i (D.told disks.old) (D.told disks.new) }
     ensures cause { HasCause ((D.told disks.old).faults i) ((D.told disks.new).faults i) result }

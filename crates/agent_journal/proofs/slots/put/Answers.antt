@@ -1,10 +1,11 @@
 use Rattle.std.proofs.Common.{ℕ, ◌+◌, ap}
+use Rattle.std.proofs.lemmas.Result.{on_ok_weaker}
 use Rattle.nego_io.proofs.CallLaws.{calls-then, leaves-then}
 use Rattle.agent_msg.specs.Records.{entry}
 use Rattle.agent_journal.specs.Slots.{kept}
 use Rattle.agent_journal.specs.Journal.{KeepsOrAdds}
 use Rattle.agent_journal.proofs.PutLaws.{on_ok}
-use Rattle.agent_journal.proofs.PutCalls.{images-record, content-record, place-gate-now, images-gate, settled-gate, added-gate}
+use Rattle.agent_journal.proofs.PutCalls.{images-record, content-record, place-gate-now, images-gate, settled-gate, added-gate, content-both}
 use Rattle.agent_journal.proofs.slots.put.Goals as goal
 
 pub returns-clause-calls : goal.returns-clause-calls
@@ -66,3 +67,13 @@ returns-clause-added g c =
     on_ok c.write_through-2.result
     (λ now synced told. added-gate a b i n e calls c.requires.settled d c.write_through-2.ensures.calls c.closed_behind.ensures.whole c.requires.place c.gate-2.result c.gate-2.ensures has now told)
     c.write_through-2.ensures.content c.write_through-2.ensures.synced
+
+pub returns-clause-content : goal.returns-clause-content
+returns-clause-content g c =
+    let a = g.D.Disks.told c.args.disks.now in
+    let b = g.D.Disks.told c.write_through.new.disks in
+    let d = g.D.Disks.told c.write_through-2.new.disks in
+    on_ok_weaker c.write_through-2.result
+    (content-both a b c.args.i c.args.count (entry c.args.r.now) c.write_through.ensures.calls c.requires.settled c.closed_behind.result c.closed_behind.ensures.value _ (ap (λ (k : ℕ). k + 1) c.gate.ensures) c.in_ok-write_through.ensures.content
+    d c.write_through-2.ensures.calls c.gate-2.result c.gate-2.ensures)
+    c.write_through-2.ensures.content

@@ -4,7 +4,7 @@ use Rattle.nego_io.proofs.CallLaws.{calls-then, leaves-then}
 use Rattle.agent_journal.specs.Slots.{kept}
 use Rattle.agent_journal.specs.Journal.{KeepsAll}
 use Rattle.agent_journal.proofs.PutLaws.{on_ok}
-use Rattle.agent_journal.proofs.RepairCalls.{images-cut, place-cut, images-close, kept-close, settled-close}
+use Rattle.agent_journal.proofs.RepairCalls.{images-cut, place-cut, images-close, kept-close, settled-close, content-close}
 use Rattle.agent_journal.proofs.slots.repair.Goals as goal
 
 pub returns-clause-calls : goal.returns-clause-calls
@@ -33,11 +33,18 @@ returns-clause-kept g c =
     on_ok_weaker c.close.result
     (λ closes. kept-close (g.D.Disks.told c.args.disks.now) (g.D.Disks.told c.shorten.new.disks) c.args.i c.args.count c.shorten.ensures.calls c.requires.all _ (ap (λ (n : ℕ). n + 1) c.gate.ensures) c.in_ok-shorten.ensures.content
     (g.D.Disks.told c.close.new.disks) c.close.ensures.calls c.gate-2.result c.gate-2.ensures closes)
-    c.close.ensures.content
+    c.close.ensures.closes
 
 pub returns-clause-settled : goal.returns-clause-settled
 returns-clause-settled g c =
     on_ok c.close.result
     (λ closes synced. settled-close (g.D.Disks.told c.args.disks.now) (g.D.Disks.told c.shorten.new.disks) c.args.i c.args.count c.shorten.ensures.calls c.requires.all _ (ap (λ (n : ℕ). n + 1) c.gate.ensures) c.in_ok-shorten.ensures.content
     (g.D.Disks.told c.close.new.disks) c.close.ensures.calls c.gate-2.result c.gate-2.ensures closes synced)
-    c.close.ensures.content c.close.ensures.synced
+    c.close.ensures.closes c.close.ensures.synced
+
+pub returns-clause-content : goal.returns-clause-content
+returns-clause-content g c =
+    on_ok_weaker c.close.result
+    (content-close (g.D.Disks.told c.args.disks.now) (g.D.Disks.told c.shorten.new.disks) c.args.i c.args.count c.shorten.ensures.calls c.requires.all _ (ap (λ (n : ℕ). n + 1) c.gate.ensures) c.in_ok-shorten.ensures.content
+    (g.D.Disks.told c.close.new.disks) c.close.ensures.calls c.gate-2.result c.gate-2.ensures)
+    c.close.ensures.content
