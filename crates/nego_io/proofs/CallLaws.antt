@@ -1,7 +1,8 @@
 -- Calls on one disk, one after another.
-use Rattle.std.proofs.Common.{◌≡◌, ℕ, ◌≤◌, inl, inr, IsTrue, List, refl, sym, ◌∙◌, subst, arith}
-use Rattle.std.proofs.lemmas.Bool.{cases_lt}
-use Rattle.nego_io.specs.Disks.{ToldDisks, LeavesNow, IsSince, Elapses, IsAsBefore, AreCallsOn, LeavesOnly, IsRead}
+use Rattle.std.proofs.Common.{◌≡◌, ◌≢◌, ℕ, ◌≤◌, inl, inr, ⊎_elim, IsTrue, All, List, [], ◌∷◌, ◌++◌, refl, sym, ◌∙◌, subst, arith}
+use Rattle.std.proofs.lemmas.List.Elements.{All-nil, All-cons, All-head, All-tail}
+use Rattle.std.proofs.lemmas.Bool.{cases_lt, cases_eq}
+use Rattle.nego_io.specs.Disks.{ToldDisks, LeavesNow, IsSince, Elapses, IsAsBefore, AreCallsOn, AreCallsOnDisks, LeavesOnly, IsRead}
 
 -- With no call nothing changes.
 pub calls-none : (i : ℕ) (d : ToldDisks) → AreCallsOn i d d
@@ -19,6 +20,29 @@ calls-none i d = record {
         let same : t ≡ d.moment = omega (arith, since.from, since.to) in
         (λ left. subst (λ (n : ℕ). d.leaves n j image) same left, λ left. subst (λ (n : ℕ). d.leaves n j image) (sym same) left)
 
+-- Time goes on, and then on.
+elapses-then : (a b c : ToldDisks) → Elapses a b → Elapses b c → Elapses a c
+elapses-then a b c f s = record {
+  later = omega (arith, f.later, s.later);
+  past = λ t j image le.
+      let within : t ≤ b.moment = omega (arith, le, f.later) in
+      (λ left. (f.past t j image le).0 ((s.past t j image within).0 left), λ left. (s.past t j image within).1 ((f.past t j image le).1 left));
+}
+
+-- A disk that is as before, and then still.
+before-then : (j : ℕ) (a b c : ToldDisks) → Elapses a b → Elapses b c → IsAsBefore j a b → IsAsBefore j b c → IsAsBefore j a c
+before-then j a b c f s of_f of_s = record {
+  content = of_s.content ∙ of_f.content;
+  images = λ t image since. elim (cases_lt b.moment t) [
+    inl after ↦
+      let later : IsSince b c t = record { from = omega (arith, after); to = since.to } in
+      let at_b : IsSince a b b.moment = record { from = f.later; to = omega arith } in
+      (λ left. (of_f.images b.moment image at_b).0 ((of_s.images t image later).0 left), λ left. (of_s.images t image later).1 ((of_f.images b.moment image at_b).1 left))
+  | inr before ↦
+      let sooner : IsSince a b t = record { from = since.from; to = before } in
+      (λ left. (of_f.images t image sooner).0 ((s.past t j image before).0 left), λ left. (s.past t j image before).1 ((of_f.images t image sooner).1 left)) ];
+}
+
 -- Calls, and then more.
 pub calls-then : (i : ℕ) (a b c : ToldDisks) → AreCallsOn i a b → AreCallsOn i b c → AreCallsOn i a c
 calls-then i a b c first second = record {
@@ -26,29 +50,42 @@ calls-then i a b c first second = record {
   disks = second.disks ∙ first.disks;
   later = omega (arith, first.later, second.later);
   faults = λ j differ. second.faults j differ ∙ first.faults j differ;
-  elapses = λ told. elapses told (first.elapses (second.told told)) (second.elapses told);
-  others = λ j differ told. others j told (first.elapses (second.told told)) (second.elapses told) (first.others j differ (second.told told)) (second.others j differ told);
+  elapses = λ told. elapses-then a b c (first.elapses (second.told told)) (second.elapses told);
+  others = λ j differ told. before-then j a b c (first.elapses (second.told told)) (second.elapses told) (first.others j differ (second.told told)) (second.others j differ told);
 }
-  where
-    elapses : IsTrue c.telling → Elapses a b → Elapses b c → Elapses a c
-    elapses told f s = record {
-      later = omega (arith, f.later, s.later);
-      past = λ t j image le.
-          let within : t ≤ b.moment = omega (arith, le, f.later) in
-          (λ left. (f.past t j image le).0 ((s.past t j image within).0 left), λ left. (s.past t j image within).1 ((f.past t j image le).1 left));
-    }
-    others : (j : ℕ) → IsTrue c.telling → Elapses a b → Elapses b c → IsAsBefore j a b → IsAsBefore j b c → IsAsBefore j a c
-    others j told f s of_f of_s = record {
-      content = of_s.content ∙ of_f.content;
-      images = λ t image since. elim (cases_lt b.moment t) [
-        inl after ↦
-          let later : IsSince b c t = record { from = omega (arith, after); to = since.to } in
-          let at_b : IsSince a b b.moment = record { from = f.later; to = omega arith } in
-          (λ left. (of_f.images b.moment image at_b).0 ((of_s.images t image later).0 left), λ left. (of_s.images t image later).1 ((of_f.images b.moment image at_b).1 left))
-      | inr before ↦
-          let sooner : IsSince a b t = record { from = since.from; to = before } in
-          (λ left. (of_f.images t image sooner).0 ((s.past t j image before).0 left), λ left. (s.past t j image before).1 ((of_f.images t image sooner).1 left)) ];
-    }
+
+-- What all of two lists have, all of each have.
+all-left : (P : ℕ → Type 0) (xs ys : List ℕ) → All P (xs ++ ys) → All P xs
+all-left P [] ys all = All-nil P
+all-left P (x ∷ xs) ys all = All-cons P x xs (All-head P x (xs ++ ys) all) (all-left P xs ys (All-tail P x (xs ++ ys) all))
+
+all-right : (P : ℕ → Type 0) (xs ys : List ℕ) → All P (xs ++ ys) → All P ys
+all-right P [] ys all = all
+all-right P (x ∷ xs) ys all = all-right P xs ys (All-tail P x (xs ++ ys) all)
+
+-- Calls on one disk are calls on disks.
+pub disks-one : (i : ℕ) (a b : ToldDisks) → AreCallsOn i a b → AreCallsOnDisks (i ∷ []) a b
+disks-one i a b calls = record {
+  told = calls.told;
+  disks = calls.disks;
+  later = λ j. ⊎_elim (λ e. subst (λ (n : ℕ). a.faults n ≤ b.faults n) (sym e) calls.later) (λ differ. let same = calls.faults j differ in omega (arith, same)) (cases_eq j i);
+  faults = λ j none. calls.faults j (All-head (λ (n : ℕ). j ≢ n) i [] none);
+  elapses = calls.elapses;
+  others = λ j none. calls.others j (All-head (λ (n : ℕ). j ≢ n) i [] none);
+}
+
+-- Calls on some disks, and then on others, are calls on both.
+pub disks-then : (is js : List ℕ) (a b c : ToldDisks) → AreCallsOnDisks is a b → AreCallsOnDisks js b c → AreCallsOnDisks (is ++ js) a c
+disks-then is js a b c first second = record {
+  told = λ told. first.told (second.told told);
+  disks = second.disks ∙ first.disks;
+  later = λ j. omega (arith, first.later j, second.later j);
+  faults = λ j none. second.faults j (all-right (λ (n : ℕ). j ≢ n) is js none) ∙ first.faults j (all-left (λ (n : ℕ). j ≢ n) is js none);
+  elapses = λ told. elapses-then a b c (first.elapses (second.told told)) (second.elapses told);
+  others = λ j none told.
+      before-then j a b c (first.elapses (second.told told)) (second.elapses told)
+      (first.others j (all-left (λ (n : ℕ). j ≢ n) is js none) (second.told told)) (second.others j (all-right (λ (n : ℕ). j ≢ n) is js none) told);
+}
 
 -- A stop at each moment of calls, and then of more, leaves only images with P.
 pub leaves-then : (P : List ℕ → Type 0) (i : ℕ) (a b c : ToldDisks) → AreCallsOn i b c → LeavesOnly P i a b → LeavesOnly P i b c → LeavesOnly P i a c

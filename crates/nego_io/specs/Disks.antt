@@ -1,5 +1,5 @@
 -- Disks that may be stopped at any moment: what is told of them, and what a call on one of them changes.
-use Rattle.std.specs.Prelude.{◌≡◌, ◌≢◌, ℕ, ◌+◌, ◌<◌, ◌≤◌, Bool, IsTrue, ◌⊎◌, ◌↔◌, List, ◌++◌, length, take, drop, min, max, slice_index}
+use Rattle.std.specs.Prelude.{◌≡◌, ◌≢◌, ℕ, ◌+◌, ◌<◌, ◌≤◌, Bool, IsTrue, ◌⊎◌, ◌↔◌, All, List, ◌++◌, length, take, drop, min, max, slice_index}
 
 -- What is told of the disks of a program. Where they aren't telling, only their number and the counts of faults mean
 -- anything.
@@ -44,6 +44,16 @@ pub record AreCallsOn (i : ℕ) (old new : ToldDisks) : Type 0 where
   pub faults : (j : ℕ) → j ≢ i → new.faults j ≡ old.faults j
   pub elapses : IsTrue new.telling → Elapses old new
   pub others : (j : ℕ) → j ≢ i → IsTrue new.telling → IsAsBefore j old new
+
+-- What calls on some disks keep: what tells after them told before, no count of faults falls, time goes on, and no disk
+-- that isn't one of them changes.
+pub record AreCallsOnDisks (is : List ℕ) (old new : ToldDisks) : Type 0 where
+  pub told : IsTrue new.telling → IsTrue old.telling
+  pub disks : new.disks ≡ old.disks
+  pub later : (j : ℕ) → old.faults j ≤ new.faults j
+  pub faults : (j : ℕ) → All (λ i. j ≢ i) is → new.faults j ≡ old.faults j
+  pub elapses : IsTrue new.telling → Elapses old new
+  pub others : (j : ℕ) → All (λ i. j ≢ i) is → IsTrue new.telling → IsAsBefore j old new
 
 -- Where it is told, the disk has this content.
 abbrev pub HasContent : ToldDisks → ℕ → List ℕ → Type 0

@@ -3,8 +3,9 @@ ghost use Rattle.std.specs.List.{concat, list_all};
 ghost use Rattle.nego_base.specs.Lines.{lines, words, without_end, is_newline, is_blank, is_word_end};
 ghost use Rattle.nego_io.specs.Answer.{Answers, TakesWithin, TakesUpTo};
 ghost use Rattle.nego_io.specs.Laws.{HasNo, ClosedPartsStand, PartsAreFound, PastLimitIsFound, UnendedIsFound};
+ghost use Rattle.nego_io.specs.Disks.{AreCallsOn, AreCallsOnDisks};
 
-use crate::{Part, ReadAnswer};
+use crate::{Disks, Part, ReadAnswer};
 
 /// What the lines of a text are: they make up the text, which can be parted behind a newline; each ends with its only
 /// newline, but the last may lack one.
@@ -46,4 +47,11 @@ pub fn parts_of_an_input()
 /// A text whose last line, with its newline, is its only end line is a part, whatever follows it.
 pub fn texts_that_are_parts()
     ensures { ClosedPartsStand }
+{}
+
+/// What calls on several disks keep: calls on one disk are such calls, and one after another they are calls on all of
+/// their disks.
+pub fn calls_on_disks<D: Disks>()
+    ensures one { (i : ℕ) (a b : D) → AreCallsOn i (D.told a) (D.told b) → AreCallsOnDisks (i ∷ []) (D.told a) (D.told b) }
+    ensures then { (is js : List ℕ) (a b c : D) → AreCallsOnDisks is (D.told a) (D.told b) → AreCallsOnDisks js (D.told b) (D.told c) → AreCallsOnDisks (is ++ js) (D.told a) (D.told c) }
 {}

@@ -21,7 +21,7 @@ mod source;
 pub use disks::Disks;
 pub use failed::Failed;
 pub use laws::{
-    ends_of_lines, lines_of_a_text, parts_of_an_input, taken_of_an_input, texts_that_are_parts,
+    calls_on_disks, ends_of_lines, lines_of_a_text, parts_of_an_input, taken_of_an_input, texts_that_are_parts,
     words_of_a_text,
 };
 pub use mem_disks::MemDisks;
