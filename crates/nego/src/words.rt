@@ -21,7 +21,10 @@ pub(crate) trait Arguments {
 }
 
 /// The words of a call: its arguments behind the program's name, all of them in their order.
-pub(crate) fn argument_words<A: Arguments>(alloc: Global, arguments: &A) -> Result<Seq<Text>, Memory>
+pub(crate) fn argument_words<A: Arguments>(
+    alloc: Global,
+    arguments: &A,
+) -> Result<Seq<Text>, Memory>
     ensures { IfOk result (AreBehindName (A.told arguments.now)) }
 {
     let mut words = Seq::new(alloc);

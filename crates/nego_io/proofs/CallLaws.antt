@@ -34,13 +34,14 @@ before-then : (j : ℕ) (a b c : ToldDisks) → Elapses a b → Elapses b c → 
 before-then j a b c f s of_f of_s = record {
   content = of_s.content ∙ of_f.content;
   images = λ t image since. elim (cases_lt b.moment t) [
-    inl after ↦
-      let later : IsSince b c t = record { from = omega (arith, after); to = since.to } in
-      let at_b : IsSince a b b.moment = record { from = f.later; to = omega arith } in
-      (λ left. (of_f.images b.moment image at_b).0 ((of_s.images t image later).0 left), λ left. (of_s.images t image later).1 ((of_f.images b.moment image at_b).1 left))
-  | inr before ↦
-      let sooner : IsSince a b t = record { from = since.from; to = before } in
-      (λ left. (of_f.images t image sooner).0 ((s.past t j image before).0 left), λ left. (s.past t j image before).1 ((of_f.images t image sooner).1 left)) ];
+    | inl after ↦
+        let later : IsSince b c t = record { from = omega (arith, after); to = since.to } in
+        let at_b : IsSince a b b.moment = record { from = f.later; to = omega arith } in
+        (λ left. (of_f.images b.moment image at_b).0 ((of_s.images t image later).0 left), λ left. (of_s.images t image later).1 ((of_f.images b.moment image at_b).1 left))
+    | inr before ↦
+        let sooner : IsSince a b t = record { from = since.from; to = before } in
+        (λ left. (of_f.images t image sooner).0 ((s.past t j image before).0 left), λ left. (s.past t j image before).1 ((of_f.images t image sooner).1 left))
+  ];
 }
 
 -- Calls, and then more.
@@ -91,8 +92,9 @@ disks-then is js a b c first second = record {
 pub leaves-then : (P : List ℕ → Type 0) (i : ℕ) (a b c : ToldDisks) → AreCallsOn i b c → LeavesOnly P i a b → LeavesOnly P i b c → LeavesOnly P i a c
 leaves-then P i a b c second of_first of_second told t image since left =
     elim (cases_lt b.moment t) [
-      inl after ↦ of_second told t image (record { from = omega (arith, after); to = since.to }) left
-    | inr before ↦ of_first (second.told told) t image (record { from = since.from; to = before }) (((second.elapses told).past t i image before).0 left) ]
+      | inl after ↦ of_second told t image (record { from = omega (arith, after); to = since.to }) left
+      | inr before ↦ of_first (second.told told) t image (record { from = since.from; to = before }) (((second.elapses told).past t i image before).0 left)
+    ]
 
 -- Images with P are images with Q.
 pub leaves-weaker : (P Q : List ℕ → Type 0) (i : ℕ) (a b : ToldDisks) → (IsTrue b.telling → (image : List ℕ) → P image → Q image) → LeavesOnly P i a b → LeavesOnly Q i a b

@@ -27,7 +27,7 @@ own-change i disk step = rw (eq-eqb i i refl) refl
 pub other-change : (i j : ℕ) (disk : DiskState) (step : Option Step) → j ≢ i → after_change j disk (record { disk = i; step = step }) ≡ disk
 other-change i j disk step differ =
     let apart : (i == j) ≡ false =
-        elim (i == j) as (λ v. (v ≡ true → i ≡ j) → v ≡ false) [ true ↦ λ h. absurd (differ (sym (h refl))) | false ↦ λ h. refl ] (eqb-true i j)
+    elim (i == j) as (λ v. (v ≡ true → i ≡ j) → v ≡ false) [ true ↦ λ h. absurd (differ (sym (h refl))) | false ↦ λ h. refl ] (eqb-true i j)
     in rw apart refl
 
 module _ (s : MemDisksState) (change : Change) (calls : DiskCalls) where
@@ -42,19 +42,20 @@ module _ (s : MemDisksState) (change : Change) (calls : DiskCalls) where
       let start : DiskState = record { synced = slice_index_or s.first j []; pending = [] } in
       ap (λ (cs : List Change). fold (after_change j) start cs) (take_all (length (s.changes ++ change ∷ [])) (s.changes ++ change ∷ []) (omega arith))
       ∙ (fold-append (after_change j) start s.changes (change ∷ [])
-         ∙ ap (λ (cs : List Change). after_change j (fold (after_change j) start cs) change) (sym (take_all (length s.changes) s.changes (omega arith))))
+      ∙ ap (λ (cs : List Change). after_change j (fold (after_change j) start cs) change) (sym (take_all (length s.changes) s.changes (omega arith))))
 
   -- at each moment since, it wasn't made yet or it was
   pub disk-since : (t j : ℕ) → IsSince (told_of s) (told_of (changed s change calls)) t →
       (disk_at (changed s change calls) t j ≡ disk_now s j) ⊎ (disk_at (changed s change calls) t j ≡ after_change j (disk_now s j) change)
   disk-since t j since =
       elim (cases_lt (length s.changes) t) [
-        inl after ↦
-          let last : t ≡ length (s.changes ++ change ∷ []) = omega (arith, after, since.to, length-append s.changes (change ∷ [])) in
-          inr (ap (λ (n : ℕ). disk_at (changed s change calls) n j) last ∙ disk-next j)
-      | inr before ↦
-          let first : t ≡ length s.changes = omega (arith, before, since.from) in
-          inl (disk-past t j before ∙ ap (λ (n : ℕ). disk_at s n j) first) ]
+        | inl after ↦
+            let last : t ≡ length (s.changes ++ change ∷ []) = omega (arith, after, since.to, length-append s.changes (change ∷ [])) in
+            inr (ap (λ (n : ℕ). disk_at (changed s change calls) n j) last ∙ disk-next j)
+        | inr before ↦
+            let first : t ≡ length s.changes = omega (arith, before, since.from) in
+            inl (disk-past t j before ∙ ap (λ (n : ℕ). disk_at s n j) first)
+      ]
 
 -- A change of one disk is all that happens to the others.
 pub calls-on : (s : MemDisksState) (i : ℕ) (step : Option Step) (calls : DiskCalls) → calls.failed ≡ s.calls.failed →
@@ -76,6 +77,7 @@ calls-on s i step calls counts = record {
   where
     change : Change
     change = record { disk = i; step = step }
+
     still : (j : ℕ) → j ≢ i → (t : ℕ) → IsSince (told_of s) (told_of (changed s change calls)) t → disk_at (changed s change calls) t j ≡ disk_now s j
     still j differ t since = ⊎_elim (λ e. e) (λ e. e ∙ other-change i j (disk_now s j) step differ) (disk-since s change calls t j since)
 
@@ -102,7 +104,7 @@ images-synced s i calls told t image since left =
     ⊎_elim
     (λ e. subst (ImageOf image) e left)
     (λ e. let is_content : image ≡ content_now s i = subst (ImageOf image) (e ∙ own-change i (disk_now s i) None) left in
-          subst (λ (c : List ℕ). LeavesNow (told_of s) i c) (sym is_content) (content-is_image s i))
+    subst (λ (c : List ℕ). LeavesNow (told_of s) i c) (sym is_content) (content-is_image s i))
     (disk-since s change calls t i since)
 
 -- what a call that does nothing leaves
@@ -130,10 +132,12 @@ present-after s i step contents next are below is = record {
   where
     change : Change
     change = record { disk = i; step = step }
+
     here : (j : ℕ) → j ≡ i → slice_index_or (slice_set contents i next) j [] ≡ content_now (changed s change s.calls) j
     here j e =
         subst (λ (n : ℕ). slice_index_or (slice_set contents i next) n [] ≡ content_now (changed s change s.calls) n) (sym e)
         (get_or-set_same contents i next [] (omega (arith, below, are.all)) ∙ is)
+
     there_still : (j : ℕ) → j < length s.first → j ≢ i → slice_index_or (slice_set contents i next) j [] ≡ content_now (changed s change s.calls) j
     there_still j there differ =
         get_or-set_other contents i j next [] differ

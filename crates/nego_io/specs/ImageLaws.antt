@@ -11,7 +11,7 @@ pub length-overwritten : (at : ℕ) (piece content : List ℕ) → length (overw
 length-overwritten at piece content =
     length-append (take at content) (piece ++ drop (at + length piece) content)
     ∙ (ap (λ (n : ℕ). n + length (piece ++ drop (at + length piece) content)) (length-take at content)
-       ∙ ap (λ (n : ℕ). min at (length content) + n) (length-append piece (drop (at + length piece) content) ∙ ap (λ (n : ℕ). length piece + n) (length-drop (at + length piece) content)))
+    ∙ ap (λ (n : ℕ). min at (length content) + n) (length-append piece (drop (at + length piece) content) ∙ ap (λ (n : ℕ). length piece + n) (length-drop (at + length piece) content)))
 
 -- bytes before a piece that was written stay
 before-overwritten : (at : ℕ) (piece content : List ℕ) (k : ℕ) → k < length content → k < at → get_or (overwritten at piece content) k 0 ≡ get_or content k 0
@@ -26,7 +26,7 @@ behind-overwritten at piece content k there behind =
     let place : (at + length piece) + ((k - at) - length piece) ≡ k = omega (arith, behind) in
     get_or-append_right (take at content) (piece ++ drop (at + length piece) content) at k 0 front (omega (arith, behind))
     ∙ (get_or-append_right piece (drop (at + length piece) content) (length piece) (k - at) 0 refl (omega (arith, behind))
-       ∙ (get_or-drop (at + length piece) content ((k - at) - length piece) 0 ∙ ap (λ (n : ℕ). get_or content n 0) place))
+    ∙ (get_or-drop (at + length piece) content ((k - at) - length piece) 0 ∙ ap (λ (n : ℕ). get_or content n 0) place))
 
 -- a write changes nothing outside its range
 pub torn-overwritten : (at : ℕ) (piece content : List ℕ) → Torn at (length piece) content (overwritten at piece content)

@@ -85,7 +85,7 @@ told_of s =
       faults = λ i. slice_index s.calls.failed i;
       content = λ i. content_now s i;
       moment = length s.changes;
-      leaves = λ t i image. IsImage (disk_at s t i).pending (disk_at s t i).synced image
+      leaves = λ t i image. IsImage (disk_at s t i).pending (disk_at s t i).synced image;
     }
 
 -- whether the list has this disk with this number of a call
@@ -114,7 +114,7 @@ after_call i succeeded calls =
       all = next_count calls.all;
       made = counted i calls.made;
       failed = if succeeded then calls.failed else counted i calls.failed;
-      starved = if succeeded || must_fail i calls then calls.starved else next_count calls.starved
+      starved = if succeeded || must_fail i calls then calls.starved else next_count calls.starved;
     }
 
 -- the change of a call where it succeeds; one that fails does nothing else

@@ -17,7 +17,7 @@ remade (Some (Write at piece)) r =
     record {
       content = overwritten at piece r.content;
       image = overwritten at (replicate (length piece) r.filler) r.image;
-      filler = r.filler
+      filler = r.filler;
     }
 remade (Some (Cut to)) r = record { content = take to r.content; image = take to r.image; filler = r.filler }
 remade None r = record { content = r.content; image = r.content; filler = r.filler }

@@ -21,8 +21,8 @@ mod source;
 pub use disks::Disks;
 pub use failed::Failed;
 pub use laws::{
-    calls_on_disks, ends_of_lines, lines_of_a_text, parts_of_an_input, taken_of_an_input, texts_that_are_parts,
-    words_of_a_text,
+    calls_on_disks, ends_of_lines, lines_of_a_text, parts_of_an_input, taken_of_an_input,
+    texts_that_are_parts, words_of_a_text,
 };
 pub use mem_disks::MemDisks;
 pub use mem_sink::MemSink;

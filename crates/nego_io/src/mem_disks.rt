@@ -136,8 +136,7 @@ impl Disks for MemDisks {
 
     ghost content_is_left = { λ d i below told. content-is_image d i };
 
-    fn disks(&self) -> u32
-    {
+    fn disks(&self) -> u32 {
         self.first.len() as u32
     }
 

@@ -323,17 +323,49 @@ type Row = (usize, &'static [u8], &'static [u8]);
 
 static LINES: [Row; 12] = [
     (1, b"nego 3\n", b"refused diagram line 1 column 6 Version\n"),
-    (2, b"agent a 01\n", b"refused diagram line 2 column 9 Number\n"),
+    (
+        2,
+        b"agent a 01\n",
+        b"refused diagram line 2 column 9 Number\n",
+    ),
     (2, b"agent A 2\n", b"refused diagram line 2 column 7 Name\n"),
-    (5, b"case a=0 a:=1\n", b"refused diagram line 5 column 1 Case\n"),
+    (
+        5,
+        b"case a=0 a:=1\n",
+        b"refused diagram line 5 column 1 Case\n",
+    ),
     (3, b"foo\n", b"refused diagram line 3 column 1 Word\n"),
     (2, b"agent a\n", b"refused diagram line 2 column 8 Count\n"),
-    (2, b"agent a 2 3\n", b"refused diagram line 2 column 11 Count\n"),
-    (6, b"first other\n", b"refused diagram line 6 Unknown other\n"),
-    (5, b"case : a:=2\n", b"refused diagram line 5 ValueTooLarge only.set a\n"),
-    (2, b"agent a 65\n", b"refused diagram line 2 SizeTooLarge a\n"),
-    (2, b"agent a 2\nagent b 1\n", b"refused diagram line 7 FirstLacks b\n"),
-    (5, b"case a=0 : a:=1\n", b"refused diagram line 4 NotTotal only.set 1\n"),
+    (
+        2,
+        b"agent a 2 3\n",
+        b"refused diagram line 2 column 11 Count\n",
+    ),
+    (
+        6,
+        b"first other\n",
+        b"refused diagram line 6 Unknown other\n",
+    ),
+    (
+        5,
+        b"case : a:=2\n",
+        b"refused diagram line 5 ValueTooLarge only.set a\n",
+    ),
+    (
+        2,
+        b"agent a 65\n",
+        b"refused diagram line 2 SizeTooLarge a\n",
+    ),
+    (
+        2,
+        b"agent a 2\nagent b 1\n",
+        b"refused diagram line 7 FirstLacks b\n",
+    ),
+    (
+        5,
+        b"case a=0 : a:=1\n",
+        b"refused diagram line 4 NotTotal only.set 1\n",
+    ),
 ];
 
 /// Faults of the source and of the sinks.

@@ -28,5 +28,5 @@ returns-in-Err-clause-images c =
     let step : Step = Write c.args.at c.args.piece.now in
     let was : MemDisksState = record { first = c.self.inside.first; changes = c.self.inside.changes; calls = c.self.inside.calls } in
     let same = subst (λ (s : MemDisksState). LeavesOnly (Follows (MayLeave step) (told_of was) i) i (told_of was) (told_of (record { first = s.first; changes = s.changes; calls = c.starve.new.self })))
-        (sym (c.self-2.view_is ∙ c.in-Err.ensures.err)) (images-unstepped was i step c.starve.new.self) in
+    (sym (c.self-2.view_is ∙ c.in-Err.ensures.err)) (images-unstepped was i step c.starve.new.self) in
     subst (λ (s : MemDisksState). LeavesOnly (Follows (MayLeave step) (told_of s) i) i (told_of s) (told_of (record { first = c.self-2.inside.first; changes = c.self-2.inside.changes; calls = c.starve.new.self }))) c.self.view_is same
