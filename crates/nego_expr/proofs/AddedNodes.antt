@@ -5,9 +5,10 @@ use Rattle.std.proofs.lemmas.Option.{none-some, same_Some, slice_get_within, get
 use Rattle.std.proofs.lemmas.List.{length-append}
 use Rattle.std.proofs.lemmas.List.Elements.{All-nil, All-cons, All-head, All-tail, All-weaker, All-get_or}
 use Rattle.std.specs.List.{All}
+use Rattle.nego_base.proofs.ListLaws.{parts_at}
 use Rattle.nego_model.specs.Joining.{RelationTest, By}
 use Rattle.nego_model.specs.Expression.{PlainNode, Base, Join, Then, Star, children, IsNodeList, NodeMeans, Means, NodeBases, EachBase}
-use Rattle.nego_model.proofs.expressions.Nodes.{Means-append, Means-at, EachBase-older, EachBase-newest, split_at}
+use Rattle.nego_model.proofs.expressions.Nodes.{Means-append, Means-at, EachBase-older, EachBase-newest}
 use Rattle.nego_expr.specs.Work.{WorkOutcome, PlainWork, outcome_at, ByWork}
 use Rattle.nego_expr.specs.Edits.{nodes_then}
 use Rattle.nego_expr.proofs.Alive.{ByWork-found}
@@ -67,7 +68,7 @@ pub EachBase-added : (P : ℕ → Type 0) (nodes more : List PlainNode) (k : ℕ
 EachBase-added P nodes more k node old h m = subst (λ ns. EachBase P ns (length nodes + k)) (sym whole) ((EachBase-append P ((nodes ++ front) ++ node ∷ []) parts.1 (length nodes + k) short).1 newest)
   where
     parts : (front : List PlainNode) × (rest : List PlainNode) × (more ≡ front ++ node ∷ rest) × (length front ≡ k)
-    parts = split_at more k node h
+    parts = parts_at more k node h
 
     front : List PlainNode
     front = parts.0

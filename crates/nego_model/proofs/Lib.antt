@@ -3,5 +3,4 @@ pub mod expressions
 pub mod simulation
 pub mod diagrams
 pub mod completeness
-pub mod PairLaws
 mod Examples

@@ -2,13 +2,14 @@
 use Rattle.std.proofs.Common.{◌≡◌, ⊎_elim, ℕ, ◌<◌, List, [], ◌∷◌, ◌++◌, length, Some, IsTrue, refl, sym, subst, ap, ◌∙◌, arith, append_assoc, append-nil, length-append}
 use Rattle.nego_base.specs.Members.{is_in}
 use Rattle.nego_base.proofs.Members.{in_or_not, is_in-cases, is_in_none, is_in-head, is_in-tail, is_in_single}
+use Rattle.nego_base.proofs.ListLaws.{last_item}
 use Rattle.nego_model.specs.Negotiation.{Negotiation, IsNegotiation, IsDeterministic, IsOutcome}
 use Rattle.nego_model.specs.Occurring.{PlainMarking, Occurrence, ready, moved, after, leaves, final_marking, IsSound, CanOccur}
 use Rattle.nego_model.specs.Projection.{projection}
 use Rattle.nego_model.specs.Reduced.{SendAlike, EntersNone}
 use Rattle.nego_model.specs.Policy.{Policy, IsCompletedBy}
 use Rattle.nego_model.proofs.occurrence.Markings.{enables-atom}
-use Rattle.nego_model.proofs.occurrence.Steps.{after-some, after_from, leaves_between, leaves-first, last_entry}
+use Rattle.nego_model.proofs.occurrence.Steps.{after-some, after_from, leaves_between, leaves-first}
 use Rattle.nego_model.proofs.occurrence.ReachedMarkings.{IsReached, ready-after_party, ready-after_other, reached-after, reached-below}
 use Rattle.nego_model.proofs.completeness.Paths.{atoms_of, among_atoms, IsPath, path-unique, path_goes_on, path-seen, projection_at, seen_among, seen_occurs}
 use Rattle.nego_model.proofs.completeness.Policies.{completed}
@@ -137,7 +138,7 @@ module _ (nego : Negotiation) (ok : IsNegotiation nego) (single : IsDeterministi
       directly = ⊎_elim
           (λ none. let first : IsPath nego choice c (ready ways.one c) (step ∷ projection nego c rest) = subst (λ before. IsPath nego choice c (ready ways.one c) (before ++ step ∷ projection nego c rest)) none path in first.0)
           (λ ends. absurd (not_from_both ends.0 ends.1 ends.2))
-          (last_entry (projection nego c front))
+          (last_item (projection nego c front))
 
       -- and is a party of the atom
       sends : IsTrue (is_in c (nego.parties n)) × (nego.next x c ≡ step.0 ∷ [])

@@ -7,11 +7,11 @@ use Rattle.std.proofs.lemmas.List.Elements.{All-nil, All-cons, All-head, All-tai
 use Rattle.std.specs.List.{AllPairs}
 use Rattle.nego_base.specs.Members.{is_in}
 use Rattle.nego_base.proofs.Members.{in_or_not, is_in-cases, is_in_none, is_in-head, is_in-tail, some_member}
+use Rattle.nego_base.proofs.PairLaws.{AllPairs-cons}
 use Rattle.nego_model.specs.Negotiation.{Negotiation, IsNegotiation, IsDeterministic}
 use Rattle.nego_model.specs.Occurring.{PlainMarking, Occurrence, ready, leaves, final_marking}
 use Rattle.nego_model.specs.Projection.{projection}
 use Rattle.nego_model.specs.Policy.{AreChosen, IsCompletedBy}
-use Rattle.nego_model.proofs.PairLaws.{AllPairs-cons}
 use Rattle.nego_model.proofs.occurrence.Markings.{ready-replicate, enables-atom, enables-party}
 use Rattle.nego_model.proofs.occurrence.Steps.{after-some, leaves-first}
 use Rattle.nego_model.proofs.occurrence.Proper.{ready_alone}

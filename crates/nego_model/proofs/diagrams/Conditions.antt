@@ -4,6 +4,7 @@ use Rattle.std.proofs.lemmas.Option.{slice_get-get_or}
 use Rattle.std.specs.List.{All}
 use Rattle.nego_base.specs.Members.{is_in, IsRising, IsRisingBelow}
 use Rattle.nego_base.proofs.Members.{All-member}
+use Rattle.nego_base.proofs.ListLaws.{All-at}
 use Rattle.nego_data.specs.Data.{data_count}
 use Rattle.nego_data.specs.Locality.{ActsOn}
 use Rattle.nego_data.specs.Tables.{IsTable, is_related}
@@ -12,7 +13,6 @@ use Rattle.nego_model.specs.Negotiation.{IsOutcome, IsNegotiation}
 use Rattle.nego_model.specs.Joining.{By}
 use Rattle.nego_model.specs.Diagram.{PlainAtom, PlainOutcome, PlainDiagram, IsDiagram, negotiation_of, parties_of, outcomes_from, nexts_of, relation_of}
 use Rattle.nego_model.proofs.diagrams.Negotiations.{atom-below, atom_from_below, outcome_at, same_atom, rising-atoms, rising-outcomes, parties_of-at, nexts_of-at, relation_of-at}
-use Rattle.nego_model.proofs.diagrams.Readers.{all_at_place}
 
 -- The parties of an atom are a rising list of agents, and there is one.
 pub record AtomFits (agents : ℕ) (atom : PlainAtom) : Type 0 where
@@ -60,7 +60,7 @@ module _ (diagram : PlainDiagram) where
   module _ (h : HasForm diagram) where
     -- an outcome of an atom is what is asked of it
     leads : (n o : ℕ) (k : IsOutcome (negotiation_of diagram) n o) → OutcomeLeads diagram (outcome_at diagram n o k).outcome
-    leads n o k = let r = outcome_at diagram n o k in all_at_place (OutcomeLeads diagram) diagram.outcomes o r.outcome h.outcomes r.at
+    leads n o k = let r = outcome_at diagram n o k in All-at (OutcomeLeads diagram) diagram.outcomes o r.outcome h.outcomes r.at
 
     -- its next atoms
     nexts : (n o a : ℕ) (k : IsOutcome (negotiation_of diagram) n o) → slice_index_or (outcome_at diagram n o k).outcome.nexts a [] ≡ nexts_of diagram o a
@@ -119,4 +119,4 @@ module _ (diagram : PlainDiagram) where
             TableFits diagram.sizes (parties_of diagram (outcome_at diagram n o k).outcome.atom) (outcome_at diagram n o k).outcome.table
         fits n o k =
             let r = outcome_at diagram n o k in
-            all_at_place (λ outcome. TableFits diagram.sizes (parties_of diagram outcome.atom) outcome.table) diagram.outcomes o r.outcome tables r.at
+            All-at (λ outcome. TableFits diagram.sizes (parties_of diagram outcome.atom) outcome.table) diagram.outcomes o r.outcome tables r.at

@@ -1,15 +1,15 @@
 -- What a diagram's conditions say of what its readers read.
-use Rattle.std.proofs.Common.{◌≡◌, ◌≢◌, ℕ, zero, suc, ◌+◌, ◌<◌, ◌≤◌, List, [], ◌∷◌, length, map, slice_get, Some, IsTrue, refl, sym, subst, ap, ◌∙◌, arith}
-use Rattle.std.proofs.lemmas.Option.{none-some, same_Some, slice_get_within, slice_get-map, get_or_from_slice_get}
+use Rattle.std.proofs.Common.{◌≡◌, ◌≢◌, ℕ, zero, suc, ◌+◌, ◌<◌, ◌≤◌, List, [], ◌∷◌, length, map, slice_get, Some, IsTrue, refl, sym, subst, ◌∙◌, arith}
+use Rattle.std.proofs.lemmas.Option.{none-some, same_Some, slice_get_within, get_or_from_slice_get}
 use Rattle.std.proofs.lemmas.Bool.Decides.{nat_tests}
 use Rattle.std.proofs.lemmas.List.{get_or-take}
-use Rattle.std.specs.Option.{option_map}
 use Rattle.std.specs.List.{All, range_with_len}
 use Rattle.nego_base.specs.Members.{is_in, IsRising}
 use Rattle.nego_base.specs.Name.{is_name}
 use Rattle.nego_data.specs.Data.{data_count}
 use Rattle.nego_data.specs.Tables.{IsTable}
 use Rattle.nego_base.proofs.Members.{is_in-head, is_in-range, All-members, head-least}
+use Rattle.nego_base.proofs.ListLaws.{All-at, mapped_at}
 use Rattle.nego_model.specs.declared.parts.AtomPart.{AtomPart}
 use Rattle.nego_model.specs.declared.parts.OutcomePart.{OutcomePart}
 use Rattle.nego_model.specs.declared.parts.Parts.{Parts}
@@ -17,14 +17,6 @@ use Rattle.nego_model.specs.Negotiation.{IsOutcome}
 use Rattle.nego_model.specs.Diagram.{PlainOutcome, PlainDiagram, IsDiagram, negotiation_of, parties_of, outcomes_from, nexts_of}
 use Rattle.nego_model.specs.Parts.{plain_atom, plain_outcome, plain_of, AreParts}
 use Rattle.nego_model.proofs.diagrams.Negotiations.{atom-below, atom_from_below, outcome_at, IsOutcome_from_at, nexts_of-at, parties_of-at}
-
--- what all items of a list have, the item at a place has
-pub all_at_place : {X : Type 0} (P : X → Type 0) (xs : List X) (k : ℕ) (x : X) → All P xs → slice_get xs k ≡ Some x → P x
-all_at_place P xs k x h at = subst P (get_or_from_slice_get xs k x x at) (h k x (slice_get_within xs k x at))
-
--- the item of a mapped list at a place
-pub mapped_at : {X Y : Type 0} (f : X → Y) (xs : List X) (k : ℕ) (x : X) → slice_get xs k ≡ Some x → slice_get (map f xs) k ≡ Some (f x)
-mapped_at f xs k x at = slice_get-map f xs k ∙ ap (option_map f) at
 
 module _ (diagram : PlainDiagram) (ok : IsDiagram diagram) where
   -- parties are agents
@@ -34,7 +26,7 @@ module _ (diagram : PlainDiagram) (ok : IsDiagram diagram) where
   -- the outcome at a place is one of its atom
   pub own_outcome : (o : ℕ) (outcome : PlainOutcome) → slice_get diagram.outcomes o ≡ Some outcome → IsOutcome (negotiation_of diagram) outcome.atom o
   own_outcome o outcome at =
-      IsOutcome_from_at diagram outcome.atom o (all_at_place (λ x. x.atom < length diagram.atoms) diagram.outcomes o outcome ok.own_atom at)
+      IsOutcome_from_at diagram outcome.atom o (All-at (λ x. x.atom < length diagram.atoms) diagram.outcomes o outcome ok.own_atom at)
       (record { outcome = outcome; at = at; of_atom = refl })
 
   -- next atoms are atoms
@@ -71,7 +63,7 @@ first_least (y ∷ ys) x r h =
 -- the name of an atom is a name
 pub atom_named : (parts : Parts) (n : ℕ) (part : AtomPart) → AreParts parts → slice_get parts.atoms n ≡ Some part → IsTrue (is_name part.name)
 atom_named parts n part ok at =
-    all_at_place (λ atom. IsTrue (is_name atom.name)) (map plain_atom parts.atoms) n (plain_atom part) ok.names.atoms (mapped_at plain_atom parts.atoms n part at)
+    All-at (λ atom. IsTrue (is_name atom.name)) (map plain_atom parts.atoms) n (plain_atom part) ok.names.atoms (mapped_at plain_atom parts.atoms n part at)
 
 module _ (parts : Parts) (ok : AreParts parts) where
   -- the outcome of a part
@@ -81,7 +73,7 @@ module _ (parts : Parts) (ok : AreParts parts) where
   -- the name of an outcome is a name
   pub outcome_named : (o : ℕ) (part : OutcomePart) → slice_get parts.outcomes o ≡ Some part → IsTrue (is_name part.name)
   outcome_named o part at =
-      all_at_place (λ outcome. IsTrue (is_name outcome.name)) (plain_of parts).outcomes o (plain_outcome (length parts.agents) part) ok.names.outcomes (outcome_part-at o part at)
+      All-at (λ outcome. IsTrue (is_name outcome.name)) (plain_of parts).outcomes o (plain_outcome (length parts.agents) part) ok.names.outcomes (outcome_part-at o part at)
 
   -- an outcome is of its part's atom
   pub outcome_part-own : (o : ℕ) (part : OutcomePart) → slice_get parts.outcomes o ≡ Some part → IsOutcome (negotiation_of (plain_of parts)) part.atom.0 o
@@ -123,4 +115,4 @@ module _ (parts : Parts) (ok : AreParts parts) where
   -- the table of an outcome of a part is one
   pub table_part-ok : (o : ℕ) (part : OutcomePart) → slice_get parts.outcomes o ≡ Some part → IsTable (data_count parts.sizes) part.table
   table_part-ok o part at =
-      all_at_place (λ outcome. IsTable (data_count parts.sizes) outcome.table) (plain_of parts).outcomes o (plain_outcome (length parts.agents) part) ok.diagram.tables (outcome_part-at o part at)
+      All-at (λ outcome. IsTable (data_count parts.sizes) outcome.table) (plain_of parts).outcomes o (plain_outcome (length parts.agents) part) ok.diagram.tables (outcome_part-at o part at)

@@ -1,19 +1,13 @@
 -- A diagram is deterministic exactly where no agent has two next atoms.
-use Rattle.std.proofs.Common.{◌≡◌, ◌∙◌, ℕ, ◌+◌, ◌<◌, ◌≤◌, List, [], ◌∷◌, length, slice_index_or, slice_get, Some, IsTrue, ap, sym, refl, ⊎_elim, arith}
+use Rattle.std.proofs.Common.{◌≡◌, ℕ, ◌+◌, ◌<◌, ◌≤◌, List, [], ◌∷◌, length, slice_index_or, slice_get, Some, IsTrue, ap, ⊎_elim, arith}
 use Rattle.std.specs.Option.{option_map_or}
 use Rattle.std.proofs.lemmas.Bool.{cases_lt}
 use Rattle.std.proofs.lemmas.Option.{slice_get_past, slice_get_cases}
 use Rattle.nego_base.specs.Members.{is_in, IsRising}
-use Rattle.nego_base.proofs.Members.{is_in_none, is_in_single, is_in-head, is_in-tail}
+use Rattle.nego_base.proofs.Members.{is_in_none, is_in-head, is_in-tail, one_member}
 use Rattle.nego_model.specs.Negotiation.{IsOutcome, IsDeterministic}
 use Rattle.nego_model.specs.Diagram.{PlainOutcome, PlainDiagram, IsDiagram, negotiation_of, nexts_of}
 use Rattle.nego_model.proofs.diagrams.Readers.{own_outcome}
-
--- a list of one item at most has no two members
-one_member : (xs : List ℕ) (m p : ℕ) → length xs ≤ 1 → IsTrue (is_in m xs) → IsTrue (is_in p xs) → m ≡ p
-one_member [] m p few hm hp = absurd (is_in_none m [] refl hm)
-one_member (x ∷ []) m p few hm hp = is_in_single m x hm ∙ sym (is_in_single p x hp)
-one_member (x ∷ y ∷ ys) m p few hm hp = absurd (let no_more : ⊥ = omega (arith, few) in no_more)
 
 -- a rising list of two items or more has two members
 two_members : (xs : List ℕ) → IsRising xs → 1 < length xs → ((m p : ℕ) → IsTrue (is_in m xs) → IsTrue (is_in p xs) → m ≡ p) → ⊥

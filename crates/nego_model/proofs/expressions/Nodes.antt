@@ -1,8 +1,8 @@
 -- Laws of what expressions mean.
-use Rattle.std.proofs.Common.{◌≡◌, ◌↔◌, ⊎_elim, inl, inr, ℕ, zero, suc, ◌<◌, Bool, true, false, ◌==◌, List, [], ◌∷◌, ◌++◌, reverse, length, slice_get, slice_index_or, Some, MatchBool, All, refl, sym, subst, ap, ◌∙◌, arith, eq-eqb, ne_eqb, append_assoc, append-nil}
+use Rattle.std.proofs.Common.{◌≡◌, ◌↔◌, ⊎_elim, inl, inr, ℕ, ◌<◌, Bool, true, false, ◌==◌, List, [], ◌∷◌, ◌++◌, reverse, length, slice_get, slice_index_or, Some, MatchBool, All, refl, sym, subst, ◌∙◌, arith, eq-eqb, ne_eqb, append_assoc, append-nil}
 use Rattle.std.proofs.lemmas.Bool.{MatchBool-at_true, MatchBool-at_false}
-use Rattle.std.proofs.lemmas.Option.{none-some, same_Some}
 use Rattle.std.proofs.lemmas.List.{reverse-append, length-reverse, length-append}
+use Rattle.nego_base.proofs.ListLaws.{parts_at}
 use Rattle.nego_model.specs.Joining.{Relation}
 use Rattle.nego_model.specs.Expression.{PlainNode, Base, Join, Then, Star, children, IsNodeList, IsPath, NodeMeans, MeansAmong, Means, NodeBases, BasesAmong, EachBase}
 
@@ -65,12 +65,6 @@ module _ (base : Relation) where
       let o = Means-older nodes node i d e h in
       (λ m. o.0 (k.0 (subst (λ ns. Means base ns i d e) (sym joined) m)), λ m. subst (λ ns. Means base ns i d e) joined (k.1 (o.1 m)))
 
--- a list up to a place, the item there, and what follows
-pub split_at : {A : Type 0} (xs : List A) (i : ℕ) (x : A) → slice_get xs i ≡ Some x → (front : List A) × (rest : List A) × (xs ≡ front ++ x ∷ rest) × (length front ≡ i)
-split_at [] i x h = absurd (none-some x h)
-split_at (y ∷ ys) zero x h = ([], ys, ap (λ z. z ∷ ys) (same_Some y x h), refl)
-split_at (y ∷ ys) (suc i) x h = let k = split_at ys i x h in (y ∷ k.0, k.1, ap (◌∷◌ y) k.2, ap suc k.3)
-
 -- A node means what its children mean, in a list of nodes each made of earlier ones.
 pub Means-at : (base : Relation) (nodes : List PlainNode) (i : ℕ) (node : PlainNode) (d e : ℕ) → IsNodeList nodes → slice_get nodes i ≡ Some node → Means base nodes i d e ↔ NodeMeans base (Means base nodes) node d e
 Means-at base nodes i node d e formed h = (
@@ -79,7 +73,7 @@ Means-at base nodes i node d e formed h = (
 )
   where
     parts : (front : List PlainNode) × (rest : List PlainNode) × (nodes ≡ front ++ node ∷ rest) × (length front ≡ i)
-    parts = split_at nodes i node h
+    parts = parts_at nodes i node h
 
     front : List PlainNode
     front = parts.0

@@ -6,8 +6,9 @@ use Rattle.nego_model.specs.Negotiation.{Negotiation, IsNegotiation}
 use Rattle.nego_model.specs.Occurring.{PlainMarking, Occurrence, ready, after, opening_marking, final_marking, IsComplete}
 use Rattle.nego_model.specs.Joining.{EndsWith}
 use Rattle.nego_base.proofs.Members.{some_member}
+use Rattle.nego_base.proofs.ListLaws.{last_item}
 use Rattle.nego_model.proofs.occurrence.Markings.{ready-moved_party, ready-replicate}
-use Rattle.nego_model.proofs.occurrence.Steps.{after-some, after-outcome, leaves_before, length-run, last_entry}
+use Rattle.nego_model.proofs.occurrence.Steps.{after-some, after-outcome, leaves_before, length-run}
 
 -- a negotiation has an agent
 pub some_agent : (nego : Negotiation) → IsNegotiation nego → 0 < nego.agents
@@ -37,7 +38,7 @@ last_from_final nego marking step ok l e =
 
 -- a complete run isn't empty, and its last entry is of the last atom
 pub ends_with_the_last_atom : (nego : Negotiation) (run : List Occurrence) → IsNegotiation nego → IsComplete nego run → (o : ℕ) × EndsWith run (nego.last, o)
-ends_with_the_last_atom nego run ok complete = ⊎_elim empty ended (last_entry run)
+ends_with_the_last_atom nego run ok complete = ⊎_elim empty ended (last_item run)
   where
     empty : run ≡ [] → (o : ℕ) × EndsWith run (nego.last, o)
     empty e = absurd (opening_not_final nego ok (same_Some (opening_marking nego) (final_marking nego) (subst (IsComplete nego) e complete)))

@@ -1,5 +1,5 @@
 -- Laws of occurrences, one after another.
-use Rattle.std.proofs.Common.{◌≡◌, ◌⊎◌, inl, inr, ⊎_elim, ◌&&◌, List, [], ◌∷◌, ◌++◌, length, Option, Some, None, option_and_then, IsSome, IsTrue, refl, sym, ap, ◌∙◌}
+use Rattle.std.proofs.Common.{◌≡◌, ◌&&◌, List, [], ◌∷◌, ◌++◌, length, Option, Some, None, option_and_then, IsSome, IsTrue, refl, sym, ap, ◌∙◌}
 use Rattle.std.proofs.lemmas.Bool.{and_parts, and_from, cond-true}
 use Rattle.std.proofs.lemmas.Option.{same_Some, cond_some, option_and_then_some}
 use Rattle.std.proofs.lemmas.List.{length-replicate}
@@ -113,9 +113,3 @@ run_leaves nego marking run h = go (leaves nego marking run) refl h
         none_is_some : IsSome {T = PlainMarking} None → ⊥
         none_is_some q = cc
     go (Some left) e k = (left, e)
-
--- a list is empty or has a last entry
-pub last_entry : {A : Type 0} (run : List A) → (run ≡ []) ⊎ ((front : List A) × (step : A) × (run ≡ front ++ step ∷ []))
-last_entry [] = inl refl
-last_entry {A} (step ∷ steps) =
-    ⊎_elim (λ e. inr ([], step, ap (◌∷◌ step) e)) (λ h. inr (step ∷ h.0, h.1, ap (◌∷◌ step) h.2)) (last_entry steps)

@@ -2,10 +2,10 @@ use Rattle.std.proofs.Common.{◌≡◌, ◌<◌, length, sym, subst, ap, ◌∙
 use Rattle.std.proofs.lemmas.Option.{slice_get_within}
 use Rattle.std.proofs.lemmas.Grind.{common_steps}
 use Rattle.std.specs.List.{All}
+use Rattle.nego_base.proofs.ListLaws.{All-at}
 use Rattle.agent_msg.specs.Records.{Entry, Moved, Decided, entry}
 use Rattle.nego_model.specs.Diagram.{PlainDiagram, nexts_of}
 use Rattle.nego_model.proofs.diagrams.Negotiations.{outcome_at}
-use Rattle.nego_model.proofs.diagrams.Readers.{all_at_place}
 use Rattle.agent_core.specs.Agents.{PlainAgent, record_outcome, IsStep, IsValid}
 use Rattle.agent_core.proofs.Valid.{valid-recorded}
 use Rattle.agent_core.proofs.agent.Agent.record.Goals as goal
@@ -29,4 +29,4 @@ returns-clause-valid c =
     c.nexts.ensures.value ∙ (ap (λ o. nexts_of d o c.self.inside.id.0) c.outcome_of.ensures ∙ ap (λ s. nexts_of d (record_outcome (entry c.args.r.now)) s.plain.id) c.self.view_is) in
     let below : All (λ n. n < length d.atoms) (nexts_of d (record_outcome (entry c.args.r.now)) c.args.self.now.plain.id) = subst (λ xs. All (λ n. n < length d.atoms) xs) nexts c.nexts.ensures.in_range in
     subst (λ g. IsValid d g) (sym (returns-clause-agent c))
-    (valid-recorded d c.args.self.now.plain (entry c.args.r.now) c.requires.valid c.requires.step (λ n at. all_at_place (λ m. m < length d.atoms) (nexts_of d (record_outcome (entry c.args.r.now)) c.args.self.now.plain.id) 0 n below at))
+    (valid-recorded d c.args.self.now.plain (entry c.args.r.now) c.requires.valid c.requires.step (λ n at. All-at (λ m. m < length d.atoms) (nexts_of d (record_outcome (entry c.args.r.now)) c.args.self.now.plain.id) 0 n below at))
