@@ -25,6 +25,8 @@ use Rattle.nego_base.proofs.NameLaws.{name_is, name_no_number, decimal_digits, d
 use Rattle.nego_base.proofs.NameLaws.{name_end as place_of_end}
 use Rattle.nego_base.proofs.NumberLaws.{number_is, number_of-decimal, decimal_numeral}
 use Rattle.nego_base.proofs.Places.{place_none, place_behind}
+use Rattle.nego_base.proofs.OptionLaws.{none_or_some}
+use Rattle.nego_base.proofs.BoolLaws.{not_true}
 use Rattle.nego_reader.specs.declared.parsed.PTest.{PTest}
 use Rattle.nego_reader.specs.declared.parsed.PRight.{PRight}
 use Rattle.nego_reader.specs.declared.parsed.PRight.TheVariants as rights
@@ -81,14 +83,10 @@ name_end_at : (name : List ℕ) (c : ℕ) (rest : List ℕ) → is_name name ≡
 unfolding name_end
 name_end_at name c rest named other = rw (place_of_end name c rest named other) refl
 
-negated : (t : Bool) → t ≡ true → not t ≡ false
-negated true h = refl
-negated false h = absurd cc
-
 name_end_all : (name : List ℕ) → is_name name ≡ true → name_end name ≡ length name
 unfolding name_end
 name_end_all name named =
-    rw (place_none (λ b. not (is_name_byte b)) name (none_where_all is_name_byte (λ b. not (is_name_byte b)) (λ b h. negated (is_name_byte b) h) name (name_is name named).bytes_are)) refl
+    rw (place_none (λ b. not (is_name_byte b)) name (none_where_all is_name_byte (λ b. not (is_name_byte b)) (λ b h. not_true (is_name_byte b) h) name (name_is name named).bytes_are)) refl
 
 -- ---- operators
 
@@ -324,10 +322,6 @@ begins_no_star bytes h = no_star bytes (λ e. star_no_name_byte h.0 h.1 (sym h.2
 
 begins_more : (front rest : List ℕ) → BeginsName front → BeginsName (front ++ rest)
 begins_more front rest h = (h.0, h.1 ++ rest, ap (λ (t : List ℕ). t ++ rest) h.2, h.3)
-
-none_or_some : (o : Option ℕ) → ((n : ℕ) → o ≡ Some n → ⊥) → o ≡ None
-none_or_some None h = refl
-none_or_some (Some n) h = absurd (h n refl)
 
 -- no number has a sign
 sign_no_number : (sign : ℕ) (front digits : List ℕ) → is_digit sign ≡ false → number_of (front ++ sign ∷ digits) ≡ None
