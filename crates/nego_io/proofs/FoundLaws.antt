@@ -7,9 +7,9 @@ use Rattle.std.proofs.lemmas.List.{append-nil, length-append, drop_at}
 use Rattle.std.proofs.lemmas.List.Folds.{concat-append, list_any-append}
 use Rattle.nego_base.specs.Lines.{lines}
 use Rattle.nego_base.proofs.LineLaws.{concat-lines, lines_append, whole_lines}
+use Rattle.nego_base.proofs.OptionLaws.{map_some, map_none}
 use Rattle.nego_io.specs.Part.{is_end_line, up_to_end, part_of, newlines, reading, ended, unended, Whole, PastLimit, Unended}
 use Rattle.nego_io.specs.Laws.{IsPart, IsPastLimit, IsUnended, ClosedPartsStand, PartsAreFound, PastLimitIsFound, UnendedIsFound}
-use Rattle.nego_io.proofs.PartLaws.{from_some}
 use Rattle.nego_io.proofs.ReadingLaws.{reading_part}
 
 -- the lines that were found begin these; their last is an end line, and no other is
@@ -46,20 +46,16 @@ found_is (line ∷ rest) found h = elim (cases_Bool (is_end_line line)) [
       let same : line ∷ [] ≡ found = (let e = sym (up_to_end-true line rest ends) ∙ h in cc) in
       record { front = []; last = line; back = rest; found_is = sym same; all = ap (λ t. t ++ rest) same; none = refl; ends = ends }
   | inr goes_on ↦
-      let next = from_some (λ more. line ∷ more) (up_to_end rest) found (sym (up_to_end-false line rest goes_on) ∙ h) in
-      found_behind line rest found next.0 goes_on next.1.1 (found_is rest next.0 next.1.0)
+      let next = map_some (λ more. line ∷ more) (up_to_end rest) found (sym (up_to_end-false line rest goes_on) ∙ h) in
+      found_behind line rest found next.0 goes_on next.2 (found_is rest next.0 next.1)
 ]
 
 none_is : (ls : List (List ℕ)) → up_to_end ls ≡ None → list_any is_end_line ls ≡ false
 none_is [] h = refl
 none_is (line ∷ rest) h = elim (cases_Bool (is_end_line line)) [
   | inl ends ↦ (let e = sym (up_to_end-true line rest ends) ∙ h in cc)
-  | inr goes_on ↦ or_from _ _ goes_on (none_is rest (from_none line (up_to_end rest) (sym (up_to_end-false line rest goes_on) ∙ h)))
+  | inr goes_on ↦ or_from _ _ goes_on (none_is rest (map_none (λ more. line ∷ more) (up_to_end rest) (sym (up_to_end-false line rest goes_on) ∙ h)))
 ]
-  where
-    from_none : (line : List ℕ) (o : Option (List (List ℕ))) → option_map (λ more. line ∷ more) o ≡ None → o ≡ None
-    from_none line None h = refl
-    from_none line (Some more) h = cc
 
 found_of : (front : List (List ℕ)) (last : List ℕ) (back : List (List ℕ)) → list_any is_end_line front ≡ false → is_end_line last ≡ true → up_to_end ((front ++ last ∷ []) ++ back) ≡ Some (front ++ last ∷ [])
 found_of [] last back none ends = up_to_end-true last back ends
@@ -86,25 +82,21 @@ least (first ∷ more) line back found ends h = elim (cases_Bool (is_end_line fi
       omega (arith, size, length-append first [], length-append first (concat (more ++ line ∷ [])))
   | inr goes_on ↦
       let rest = (more ++ line ∷ []) ++ back in
-      let next = from_some (λ t. first ∷ t) (up_to_end rest) found (sym (up_to_end-false first rest goes_on) ∙ h) in
-      let size : length (concat found) ≡ length (first ++ concat next.0) = ap (λ t. length (concat t)) (sym next.1.1) in
-      omega (arith, size, length-append first (concat next.0), length-append first (concat (more ++ line ∷ [])), least more line back next.0 ends next.1.0)
+      let next = map_some (λ t. first ∷ t) (up_to_end rest) found (sym (up_to_end-false first rest goes_on) ∙ h) in
+      let size : length (concat found) ≡ length (first ++ concat next.0) = ap (λ t. length (concat t)) (sym next.2) in
+      omega (arith, size, length-append first (concat next.0), length-append first (concat (more ++ line ∷ [])), least more line back next.0 ends next.1)
 ]
 
 -- the part of an input whose lines hold such lines
 part_is : (input part : List ℕ) → part_of input ≡ Some part → (found : List (List ℕ)) × ((concat found ≡ part) × IsFound (lines input) found × (up_to_end (lines input) ≡ Some found))
 unfolding part_of
 part_is input part h =
-    let found = from_some concat (up_to_end (lines input)) part h in
-    (found.0, (found.1.1, found_is (lines input) found.0 found.1.0, found.1.0))
+    let found = map_some concat (up_to_end (lines input)) part h in
+    (found.0, (found.2, found_is (lines input) found.0 found.1, found.1))
 
 part_none : (input : List ℕ) → part_of input ≡ None → list_any is_end_line (lines input) ≡ false
 unfolding part_of
-part_none input h = none_is (lines input) (from_none (up_to_end (lines input)) h)
-  where
-    from_none : (o : Option (List (List ℕ))) → option_map concat o ≡ None → o ≡ None
-    from_none None h = refl
-    from_none (Some found) h = cc
+part_none input h = none_is (lines input) (map_none concat (up_to_end (lines input)) h)
 
 part_from : (input : List ℕ) (found : List (List ℕ)) → up_to_end (lines input) ≡ Some found → part_of input ≡ Some (concat found)
 unfolding part_of

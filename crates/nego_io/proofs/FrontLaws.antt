@@ -7,9 +7,10 @@ use Rattle.std.proofs.lemmas.List.Folds.{list_any-append}
 use Rattle.std.proofs.lemmas.List.Sums.{sum_by-append}
 use Rattle.nego_base.specs.Lines.{is_newline}
 use Rattle.nego_base.proofs.LineLaws.{HasNoNewline}
+use Rattle.nego_base.proofs.OptionLaws.{map_some}
 use Rattle.nego_io.specs.Part.{is_end_line, part_of, newlines}
 use Rattle.nego_io.specs.Front.{IsOpen, IsClosed}
-use Rattle.nego_io.proofs.PartLaws.{part_whole, part_last, part_long, from_some}
+use Rattle.nego_io.proofs.PartLaws.{part_whole, part_last, part_long}
 
 -- what follows these bytes has the part that it would have alone, behind them
 abbrev Passes : List ℕ → Type 0
@@ -119,8 +120,8 @@ part_beyond bytes start lines c rest part before h =
     let front = take start bytes in
     let line = drop start bytes in
     let all : front ++ (line ++ c ∷ rest) ≡ bytes ++ c ∷ rest = sym (append_assoc front line (c ∷ rest)) ∙ ap (λ t. t ++ c ∷ rest) (take-append-drop start bytes) in
-    let found = from_some (λ part. front ++ part) (part_of (line ++ c ∷ rest)) part (sym (before.passes (line ++ c ∷ rest)) ∙ (ap part_of all ∙ h)) in
-    let longer : length line < length found.0 = part_long line c rest found.0 before.unfinished found.1.0 in
-    let size : length part ≡ length front + length found.0 = ap length (sym found.1.1) ∙ length-append front found.0 in
+    let found = map_some (λ part. front ++ part) (part_of (line ++ c ∷ rest)) part (sym (before.passes (line ++ c ∷ rest)) ∙ (ap part_of all ∙ h)) in
+    let longer : length line < length found.0 = part_long line c rest found.0 before.unfinished found.1 in
+    let size : length part ≡ length front + length found.0 = ap length (sym found.2) ∙ length-append front found.0 in
     let whole : length front + length line ≡ length bytes = sym (length-append front line) ∙ ap length (take-append-drop start bytes) in
     omega arith

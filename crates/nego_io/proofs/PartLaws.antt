@@ -5,6 +5,7 @@ use Rattle.std.proofs.lemmas.Bool.{cases_Bool, cond-true, cond-false}
 use Rattle.std.proofs.lemmas.List.{append-nil, length-append}
 use Rattle.nego_base.specs.Lines.{lines}
 use Rattle.nego_base.proofs.LineLaws.{HasNoNewline, lines_whole, lines_last, lines_begin}
+use Rattle.nego_base.proofs.OptionLaws.{map_some}
 use Rattle.nego_io.specs.Part.{is_end_line, up_to_end, part_of}
 
 joined_behind : (line : List ℕ) (found : Option (List (List ℕ))) → option_map concat (option_map (λ more. line ∷ more) found) ≡ option_map (λ part. line ++ part) (option_map concat found)
@@ -29,19 +30,14 @@ part_last [] free = refl
 part_last (b ∷ bs) free =
     ap (λ ls. option_map concat (up_to_end ls)) (lines_last b bs free) ∙ joined_first (b ∷ bs) (is_end_line (b ∷ bs)) None
 
--- a function of what may be there answers something only of something
-pub from_some : {A B : Type 0} (f : A → B) (o : Option A) (b : B) → option_map f o ≡ Some b → (a : A) × ((o ≡ Some a) × (f a ≡ b))
-from_some f None b h = cc
-from_some f (Some a) b h = (a, (refl, cc))
-
 -- what is found among lines begins with the first of them
 pub found_first : (line : List ℕ) (others found : List (List ℕ)) → up_to_end (line ∷ others) ≡ Some found → (more : List (List ℕ)) × (found ≡ line ∷ more)
 found_first line others found h = elim (cases_Bool (is_end_line line)) [
   | inl ends ↦ ([], (let e = sym (cond-true _ (Some (line ∷ [])) (option_map (λ more. line ∷ more) (up_to_end others)) ends) ∙ h in cc))
   | inr goes_on ↦
       let e = sym (cond-false _ (Some (line ∷ [])) (option_map (λ more. line ∷ more) (up_to_end others)) goes_on) ∙ h in
-      let found_more = from_some (λ more. line ∷ more) (up_to_end others) found e in
-      (found_more.0, sym found_more.1.1)
+      let found_more = map_some (λ more. line ∷ more) (up_to_end others) found e in
+      (found_more.0, sym found_more.2)
 ]
 
 -- a part that begins with bytes without a newline, and with more, is longer than these
@@ -50,7 +46,7 @@ unfolding part_of
 part_long bytes c rest part free h =
     let begin = lines_begin bytes c rest free in
     let first = bytes ++ c ∷ begin.0 in
-    let found = from_some concat (up_to_end (lines (bytes ++ c ∷ rest))) part h in
-    let more = found_first first begin.1.0 found.0 (sym (ap up_to_end begin.1.1) ∙ found.1.0) in
-    let size : length part ≡ length (first ++ concat more.0) = ap length (sym found.1.1 ∙ ap concat more.1) in
+    let found = map_some concat (up_to_end (lines (bytes ++ c ∷ rest))) part h in
+    let more = found_first first begin.1.0 found.0 (sym (ap up_to_end begin.1.1) ∙ found.1) in
+    let size : length part ≡ length (first ++ concat more.0) = ap length (sym found.2 ∙ ap concat more.1) in
     omega (arith, size, length-append first (concat more.0), length-append bytes (c ∷ begin.0))
