@@ -1,5 +1,5 @@
 -- The first fault of sizes, and what no fault says of them.
-use Rattle.std.proofs.Common.{◌≡◌, ℕ, zero, suc, ◌+◌, ◌-◌, ◌*◌, ◌<◌, ◌≤◌, ◌==◌, nat_lt, Bool, false, List, ◌++◌, length, take, replicate, get_or, slice_index, Option, Some, None, Result, Ok, Err, inl, inr, refl, sym, subst, ap, ◌∙◌, arith, lt-ltb}
+use Rattle.std.proofs.Common.{◌≡◌, ℕ, zero, suc, ◌+◌, ◌-◌, ◌*◌, ◌<◌, ◌≤◌, ◌==◌, nat_lt, false, List, ◌++◌, length, take, replicate, get_or, slice_index, Option, Some, None, Result, Ok, Err, inl, inr, refl, sym, subst, ap, ◌∙◌, arith, lt-ltb}
 use Rattle.std.specs.List.{position, All}
 use Rattle.std.specs.Option.{option_or, option_map}
 use Rattle.std.specs.Result.{IfErr, result_err}
@@ -14,10 +14,6 @@ use Rattle.nego_data.specs.Data.{data_count}
 use Rattle.nego_data.specs.Sizes.{AreSizes, HasFault, place_past_joint, fault_of_sizes, FirstFaultIsSo}
 use Rattle.nego_data.specs.Kept.{AreKept}
 use Rattle.nego_data.proofs.Counts.{data_count_more}
-
--- where no item passes a test, the one at each place fails it
-pub fails_from_none : {X : Type 0} (p : X → Bool) (xs : List X) (k : ℕ) (d : X) → position p xs ≡ None → k < length xs → p (get_or xs k d) ≡ false
-fails_from_none p xs k d e h = position_none p xs e k d h
 
 -- sizes of which none is 0 are above 0
 pub no_zero : (sizes : List ℕ) → position (λ size. size == 0) sizes ≡ None → All (λ size. 0 < size) sizes
