@@ -3,6 +3,7 @@ use Rattle.std.proofs.Common.{◌≡◌, ℕ, ◌+◌, ◌*◌, ◌<◌, ◌≤�
 use Rattle.std.specs.Option.{option_or}
 use Rattle.std.proofs.lemmas.Bool.Decides.{nat_tests}
 use Rattle.std.proofs.lemmas.List.{drop_all}
+use Rattle.nego_base.proofs.ListLaws.{cut_at}
 use Rattle.nego_reader.specs.declared.parsed.Parsed.{Parsed}
 use Rattle.nego_reader.specs.declared.parsed.PAgent.{PAgent}
 use Rattle.nego_reader.specs.declared.parsed.PAtom.{PAtom}
@@ -10,7 +11,7 @@ use Rattle.nego_shape.specs.declared.checks.outcomes.Rule.{Rule}
 use Rattle.nego_shape.specs.declared.fault.ShapeFault.{ShapeFault}
 use Rattle.nego_shape.specs.declared.fault.ShapeKind.TheVariants as kinds
 use Rattle.nego_shape.specs.Faults.{broken_among, broken_from, joint_from, fault_on}
-use Rattle.nego_shape.proofs.FirstLaws.{cut_at, or_found, or_missed}
+use Rattle.nego_shape.proofs.FirstLaws.{or_found, or_missed}
 
 module _ (rule : Rule) (p : Parsed) where
   first_broken : (atoms : List PAtom) (i o : ℕ) (atom : PAtom) → i < length atoms → atom ≡ get_or atoms i atom →

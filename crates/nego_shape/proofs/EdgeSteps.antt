@@ -1,6 +1,6 @@
 -- The predecessors of an atom that the outcomes so far give.
 use Rattle.std.proofs.Common.{◌≡◌, ◌∙◌, ◌↔◌, ◌⊎◌, ℕ, ◌+◌, ◌<◌, ◌≤◌, Bool, true, false, ◌||◌, ◌==◌, List, [], length, IsTrue, ap, sym, subst, refl, ⊎_elim, arith, eqb-true, eq-eqb, inl, inr}
-use Rattle.std.proofs.lemmas.Bool.{cases_lt}
+use Rattle.std.proofs.lemmas.Bool.{cases_lt, true≢false}
 use Rattle.nego_base.specs.Members.{is_in, with_member}
 use Rattle.nego_base.proofs.Members.{is_in_none, is_in-with}
 use Rattle.nego_model.specs.Negotiation.{IsOutcome}
@@ -59,12 +59,9 @@ module _ (diagram : PlainDiagram) (n : ℕ) where
     edges = so_far.edges;
     all = λ m o a l its below h. ⊎_elim
         (λ earlier. so_far.all m o a earlier its below h)
-        (λ here. absurd (let e : o ≡ count = omega (arith, here, l) in let h' : IsTrue (is_in n (nexts_of diagram count a)) = subst (λ x. IsTrue (is_in n (nexts_of diagram x a))) e h in differ (sym h' ∙ none a below)))
+        (λ here. absurd (let e : o ≡ count = omega (arith, here, l) in let h' : IsTrue (is_in n (nexts_of diagram count a)) = subst (λ x. IsTrue (is_in n (nexts_of diagram x a))) e h in true≢false (sym h' ∙ none a below)))
         (cases_lt o count);
   }
-    where
-      differ : true ≡ false → ⊥
-      differ e = cc
 
   pub all_found : (found : List ℕ) (count : ℕ) → IsDiagram diagram → length diagram.outcomes ≤ count → FoundSoFar diagram n found count →
       (m : ℕ) → IsTrue (is_in m found) ↔ IsEdge (negotiation_of diagram) m n

@@ -11,6 +11,10 @@ use Rattle.std.specs.List.{All, list_any, flat_map}
 use Rattle.std.specs.Option.{option_or}
 use native.Mathlib.Nat.{mul-le-mul_left}
 use Rattle.nego_base.specs.declared.line.Word.{Word}
+use Rattle.nego_base.proofs.OptionLaws.{none_or_none}
+use Rattle.nego_base.proofs.BoolLaws.{not_true, both_false}
+use Rattle.nego_base.proofs.Firsts.{none_among, none_numbered}
+use Rattle.nego_base.proofs.ListLaws.{All-at, All-front, All-back, All-each, All-unmap}
 use Rattle.nego_data.specs.declared.cases.Set.{Set}
 use Rattle.nego_data.specs.CaseForm.{AssignsBelow, FitsSize}
 use Rattle.nego_data.specs.Data.{data_count}
@@ -32,12 +36,10 @@ use Rattle.nego_shape.specs.Naming.{place_of, agent_names, sizes_in, all_outs, s
 use Rattle.nego_shape.specs.Shaped.{AreNamedOnce, IsParty, IsNamedParty}
 use Rattle.nego_shape.specs.Shaped as shaped
 use Rattle.nego_shape.specs.Faults.{fault_on, same, stands_in, case_line, case_names, test_names, right_names, set_names, term_names, is_outside, not_party_on, is_overfull, is_too_large, value_too_large_on, broken, unknown_in, zero_size, zero_size_at, size_too_large, size_too_large_at, joint_from, joint_too_large, size_fault}
-use Rattle.nego_shape.proofs.ShapedCases.{All-front, All-back, All-each}
 use Rattle.nego_shape.proofs.SoundCases.{size_there}
-use Rattle.nego_shape.proofs.SoundPlaces.{agent_at, any_at, all_slice, party_stands, place_is}
-use Rattle.nego_shape.proofs.SoundRules.{All-unmap}
+use Rattle.nego_shape.proofs.SoundPlaces.{agent_at, any_at, party_stands, place_is}
 use Rattle.nego_shape.proofs.FaultlessPlaces.{each_placed, agent_place}
-use Rattle.nego_shape.proofs.FaultlessSearches.{both_none, none_if, not_true, both_false, none_among, none_numbered, none_agents, none_broken}
+use Rattle.nego_shape.proofs.FaultlessSearches.{none_if, none_agents, none_broken}
 
 -- what all names that are named have, a word has by which the test names
 module _ (P : List ℕ → Type 0) (word : Word) where
@@ -71,13 +73,13 @@ module _ (P : List ℕ → Type 0) (word : Word) where
   tests_have : (tests : List PTest) → list_any (test_names word) tests ≡ true → All P (flat_map shaped.test_names (map test_content tests)) → P word.text
   tests_have tests t h =
       let r = any_at (test_names word) tests t in
-      test_has r.item r.passes (all_slice (λ (x : PTest). All P (shaped.test_names (test_content x))) tests r.place r.item
+      test_has r.item r.passes (All-at (λ (x : PTest). All P (shaped.test_names (test_content x))) tests r.place r.item
       (All-unmap (λ (x : TestContent). All P (shaped.test_names x)) test_content tests (All-each P shaped.test_names (map test_content tests) h)) r.at)
 
   sets_have : (sets : List PSet) → list_any (set_names word) sets ≡ true → All P (flat_map shaped.set_names (map set_content sets)) → P word.text
   sets_have sets t h =
       let r = any_at (set_names word) sets t in
-      set_has r.item r.passes (all_slice (λ (x : PSet). All P (shaped.set_names (set_content x))) sets r.place r.item
+      set_has r.item r.passes (All-at (λ (x : PSet). All P (shaped.set_names (set_content x))) sets r.place r.item
       (All-unmap (λ (x : SetContent). All P (shaped.set_names x)) set_content sets (All-each P shaped.set_names (map set_content sets) h)) r.at)
 
   pub case_has : (c : PCase) → case_names word c ≡ true → All P (shaped.case_names (case_content c)) → P word.text
@@ -174,8 +176,8 @@ pub none_of_bounds : (p : Parsed) → All (λ size. (0 < size) × (size ≤ 64))
 none_of_bounds p bounds joint =
     let each = All-unmap (λ (x : AgentContent). (0 < x.size) × (x.size ≤ 64)) agent_content p.agents (All-unmap (λ size. (0 < size) × (size ≤ 64)) (λ (x : AgentContent). x.size) (map agent_content p.agents) bounds) in
     let some = All-weaker (λ (x : PAgent). (0 < x.size) × (x.size ≤ 64)) (λ (x : PAgent). 0 < x.size) (λ x k. k.0) p.agents each in
-    both_none (zero_size p.agents) (option_or (size_too_large p.agents) (joint_too_large p.agents)) (none_zero p.agents some)
-    (both_none (size_too_large p.agents) (joint_too_large p.agents)
+    none_or_none (zero_size p.agents) (option_or (size_too_large p.agents) (joint_too_large p.agents)) (none_zero p.agents some)
+    (none_or_none (size_too_large p.agents) (joint_too_large p.agents)
     (none_large p.agents (All-weaker (λ (x : PAgent). (0 < x.size) × (x.size ≤ 64)) (λ (x : PAgent). x.size ≤ 64) (λ x k. k.1) p.agents each))
     (none_joint 1 0 p.agents some (omega (arith, joint))))
 

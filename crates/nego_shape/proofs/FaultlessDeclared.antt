@@ -7,6 +7,11 @@ use Rattle.std.specs.List.{All, flat_map}
 use Rattle.std.specs.Option.{option_or}
 use Rattle.std.specs.Str.{bytes_eq}
 use Rattle.nego_base.specs.declared.line.Word.{Word}
+use Rattle.nego_base.specs.Firsts.{first_among}
+use Rattle.nego_base.proofs.OptionLaws.{none_or_none}
+use Rattle.nego_base.proofs.BoolLaws.{not_true}
+use Rattle.nego_base.proofs.Firsts.{none_among}
+use Rattle.nego_base.proofs.ListLaws.{All-front, All-back, All-each, All-unmap}
 use Rattle.nego_reader.specs.declared.parsed.Parsed.{Parsed}
 use Rattle.nego_reader.specs.declared.parsed.PAgent.{PAgent}
 use Rattle.nego_reader.specs.declared.parsed.PAtom.{PAtom}
@@ -19,16 +24,13 @@ use Rattle.nego_reader.specs.declared.parsed.PSet.{PSet}
 use Rattle.nego_reader.specs.declared.parsed.PTerm.{PTerm}
 use Rattle.nego_reader.specs.declared.parsed.PTerm.TheVariants as terms
 use Rattle.nego_reader.specs.Content.{AgentContent, AtomContent, OutContent, NextContent, CaseContent, TestContent, SetContent, content_of, agent_content, atom_content, next_content, case_content, test_content, set_content, right_content, term_content, texts}
-use Rattle.nego_shape.specs.Firsts.{first_among}
 use Rattle.nego_shape.specs.Naming.{agent_names, atom_names}
 use Rattle.nego_shape.specs.Shaped.{IsDeclared, AreAllDeclared, case_names, test_names, set_names, right_names, term_names}
 use Rattle.nego_shape.specs.Faults.{is_agent, is_atom, unknown_agent, unknown_atom, unknown_right, unknown_in_test, unknown_term, unknown_in_set, unknown_in_case, unknown_in_next, unknown_in_out, unknown_in_atom, unknown_in}
-use Rattle.nego_shape.proofs.ShapedCases.{All-front, All-back, All-each}
 use Rattle.nego_shape.proofs.Sought.{position_or_len-map}
 use Rattle.nego_shape.proofs.SoundDeclared.{IsOutDeclared}
-use Rattle.nego_shape.proofs.SoundRules.{All-unmap}
 use Rattle.nego_shape.proofs.FaultlessPlaces.{each_placed}
-use Rattle.nego_shape.proofs.FaultlessSearches.{both_none, none_if, not_true, found_passes, none_among}
+use Rattle.nego_shape.proofs.FaultlessSearches.{none_if, found_passes}
 
 module _ (p : Parsed) where
   abbrev Agent : List ℕ → Type 0
@@ -57,7 +59,7 @@ module _ (p : Parsed) where
 
   declared_test : (test : PTest) → All Agent (test_names (test_content test)) → unknown_in_test p.agents test ≡ None
   declared_test test h =
-      both_none (unknown_agent p.agents test.left) (unknown_right p.agents test.right) (declared_agent test.left (All-head Agent test.left.text (right_names (right_content test.right)) h))
+      none_or_none (unknown_agent p.agents test.left) (unknown_right p.agents test.right) (declared_agent test.left (All-head Agent test.left.text (right_names (right_content test.right)) h))
       (declared_right test.right (All-tail Agent test.left.text (right_names (right_content test.right)) h))
 
   declared_term : (term : PTerm) → All Agent (term_names (term_content term)) → unknown_term p.agents term ≡ None
@@ -68,14 +70,14 @@ module _ (p : Parsed) where
 
   declared_set : (set : PSet) → All Agent (set_names (set_content set)) → unknown_in_set p.agents set ≡ None
   declared_set set h =
-      both_none (unknown_agent p.agents set.agent) (unknown_term p.agents set.term) (declared_agent set.agent (All-head Agent set.agent.text (term_names (term_content set.term)) h))
+      none_or_none (unknown_agent p.agents set.agent) (unknown_term p.agents set.term) (declared_agent set.agent (All-head Agent set.agent.text (term_names (term_content set.term)) h))
       (declared_term set.term (All-tail Agent set.agent.text (term_names (term_content set.term)) h))
 
   declared_case : (c : PCase) → All Agent (case_names (case_content c)) → unknown_in_case p.agents c ≡ None
   declared_case c h =
       let tests = flat_map test_names (map test_content c.tests) in
       let sets = flat_map set_names (map set_content c.sets) in
-      both_none (first_among (unknown_in_test p.agents) c.tests) (first_among (unknown_in_set p.agents) c.sets)
+      none_or_none (first_among (unknown_in_test p.agents) c.tests) (first_among (unknown_in_set p.agents) c.sets)
       (none_among (unknown_in_test p.agents) c.tests (λ k d l. declared_test (get_or c.tests k d)
       (All-unmap (λ (t : TestContent). All Agent (test_names t)) test_content c.tests (All-each Agent test_names (map test_content c.tests) (All-front Agent tests sets h)) k d l)))
       (none_among (unknown_in_set p.agents) c.sets (λ k d l. declared_set (get_or c.sets k d)
@@ -83,26 +85,26 @@ module _ (p : Parsed) where
 
   declared_out : (out : POut) → IsOutDeclared p out → unknown_in_out p out ≡ None
   declared_out out h =
-      both_none (first_among (unknown_in_case p.agents) out.cases) (first_among (unknown_in_next p) out.nexts)
+      none_or_none (first_among (unknown_in_case p.agents) out.cases) (first_among (unknown_in_next p) out.nexts)
       (none_among (unknown_in_case p.agents) out.cases (λ k d l. declared_case (get_or out.cases k d) (All-unmap (λ (c : CaseContent). All Agent (case_names c)) case_content out.cases h.cases k d l)))
       (none_among (unknown_in_next p) out.nexts (λ k d l.
       let next = get_or out.nexts k d in
-      both_none (unknown_atom p.atoms next.atom) (first_among (unknown_agent p.agents) next.agents)
+      none_or_none (unknown_atom p.atoms next.atom) (first_among (unknown_agent p.agents) next.agents)
       (declared_atom next.atom (All-unmap (λ (n : NextContent). IsDeclared (atom_names (content_of p)) n.atom) next_content out.nexts h.atoms k d l))
       (declared_words next.agents (All-unmap (λ (n : NextContent). All Agent n.agents) next_content out.nexts h.agents k d l))))
 
   -- nothing is unknown where all is declared
   pub none_unknown : AreAllDeclared (content_of p) → unknown_in p ≡ None
   none_unknown h =
-      both_none (first_among (unknown_in_atom p) p.atoms) (option_or (unknown_atom p.atoms p.first) (unknown_atom p.atoms p.last))
+      none_or_none (first_among (unknown_in_atom p) p.atoms) (option_or (unknown_atom p.atoms p.first) (unknown_atom p.atoms p.last))
       (none_among (unknown_in_atom p) p.atoms (λ k d l.
       let atom = get_or p.atoms k d in
       let at = slice_get-get_or p.atoms k d l in
-      both_none (first_among (unknown_agent p.agents) atom.parties) (first_among (unknown_in_out p) atom.outs)
+      none_or_none (first_among (unknown_agent p.agents) atom.parties) (first_among (unknown_in_out p) atom.outs)
       (declared_words atom.parties (All-unmap (λ (x : AtomContent). All Agent x.parties) atom_content p.atoms h.parties k d l))
       (none_among (unknown_in_out p) atom.outs (λ i o m. declared_out (get_or atom.outs i o) (record {
         cases = each_placed (λ n (out : OutContent). All (λ case. All Agent (case_names case)) out.cases) p h.cases k atom at i o m;
         atoms = each_placed (λ n (out : OutContent). All (λ next. IsDeclared (atom_names (content_of p)) next.atom) out.nexts) p h.next_atoms k atom at i o m;
         agents = each_placed (λ n (out : OutContent). All (λ next. All Agent next.agents) out.nexts) p h.next_agents k atom at i o m;
       })))))
-      (both_none (unknown_atom p.atoms p.first) (unknown_atom p.atoms p.last) (declared_atom p.first h.first) (declared_atom p.last h.last))
+      (none_or_none (unknown_atom p.atoms p.first) (unknown_atom p.atoms p.last) (declared_atom p.first h.first) (declared_atom p.last h.last))

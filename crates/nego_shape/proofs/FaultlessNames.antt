@@ -1,7 +1,7 @@
 -- A text with agents, and not too many of anything, has no fault of counts, and one that names all once has nothing that
 -- stands twice.
 use Rattle.std.proofs.Common.{◌≡◌, ◌≢◌, ℕ, ◌<◌, ◌≤◌, Bool, true, false, ◌||◌, List, [], ◌∷◌, ◌++◌, length, map, take, get_or, None, slice_get, refl, sym, subst, ◌∙◌, arith}
-use Rattle.std.proofs.lemmas.Bool.{false≢true}
+use Rattle.std.proofs.lemmas.Bool.{false≢true, false_from_ne_true}
 use Rattle.std.proofs.lemmas.Option.{slice_get_past, slice_get-get_or}
 use Rattle.std.proofs.lemmas.List.{length-map}
 use Rattle.std.proofs.lemmas.List.Elements.{All-nil, All-cons, All-weaker}
@@ -10,7 +10,12 @@ use Rattle.std.proofs.lemmas.Slice.Eq.{bytes_eq-Decides}
 use Rattle.std.specs.List.{All, AllPairs, list_any}
 use Rattle.std.specs.Str.{bytes_eq}
 use Rattle.nego_base.specs.declared.line.Word.{Word}
-use Rattle.nego_model.proofs.PairLaws.{AllPairs-cons, AllPairs-head, AllPairs-tail}
+use Rattle.nego_base.proofs.PairLaws.{AllPairs-cons, AllPairs-front, AllPairs-back, AllPairs-between, AllPairs-nil, AllPairs-unmap}
+use Rattle.nego_base.specs.Firsts.{first_among, first_numbered}
+use Rattle.nego_base.proofs.OptionLaws.{none_or_none}
+use Rattle.nego_base.proofs.BoolLaws.{both_false}
+use Rattle.nego_base.proofs.Firsts.{none_among, none_again}
+use Rattle.nego_base.proofs.ListLaws.{All-front, All-back, All-unmap}
 use Rattle.nego_reader.specs.declared.parsed.Parsed.{Parsed}
 use Rattle.nego_reader.specs.declared.parsed.PAgent.{PAgent}
 use Rattle.nego_reader.specs.declared.parsed.PAtom.{PAtom}
@@ -22,17 +27,12 @@ use Rattle.nego_reader.specs.Content.{AgentContent, AtomContent, OutContent, Set
 use Rattle.nego_shape.specs.declared.fault.Many.{Many}
 use Rattle.nego_shape.specs.declared.fault.Many.TheVariants as many
 use Rattle.nego_shape.specs.declared.fault.ShapeKind.TheVariants as kinds
-use Rattle.nego_shape.specs.Firsts.{first_among, first_numbered}
 use Rattle.nego_shape.specs.Naming.{all_outs}
 use Rattle.nego_shape.specs.Shaped.{AreDifferent, AreNamedOnce, assigned_names, sent_names}
 use Rattle.nego_shape.specs.Faults.{fault_on, same, stands_in, no_agent, past, out_names, too_many, word_if, repeated, twice_in_case, agent_again, twice_on_nexts, twice_on_next, twice_in_out, out_again, twice_from_out, twice_in_outs, twice_in_atom, atom_again, twice_from_atom, twice_in_atoms, twice_in_agents, twice_in, leads}
-use Rattle.nego_shape.proofs.Outs.{AllPairs-from_map, no_pairs}
-use Rattle.nego_shape.proofs.ShapedCases.{All-front, All-back}
 use Rattle.nego_shape.proofs.SoundNames.{Differ, Apart, IsOutOnce, IsAtomOnce, outs-count}
-use Rattle.nego_shape.proofs.SoundPlaces.{false_from}
-use Rattle.nego_shape.proofs.SoundRules.{All-unmap}
 use Rattle.nego_shape.proofs.FaultlessPlaces.{each_placed}
-use Rattle.nego_shape.proofs.FaultlessSearches.{both_none, none_mapped, none_if, either_false, both_false, none_among, none_again}
+use Rattle.nego_shape.proofs.FaultlessSearches.{none_mapped, none_if, either_false}
 
 pub some_agents : (agents : List PAgent) → 0 < length (map agent_content agents) → no_agent agents ≡ None
 some_agents [] h = absurd (omega (arith, h))
@@ -43,15 +43,15 @@ none_past most what names h = none_mapped (λ (word : Word). fault_on word.line 
 
 pub few_enough : (p : Parsed) → length (content_of p).agents ≤ 16 → length (content_of p).atoms ≤ 64 → length (all_outs (content_of p)) ≤ 256 → too_many p ≡ None
 few_enough p agents atoms outs =
-    both_none (past 16 many.Agents (map (λ (agent : PAgent). agent.name) p.agents)) _
+    none_or_none (past 16 many.Agents (map (λ (agent : PAgent). agent.name) p.agents)) _
     (none_past 16 many.Agents _ (subst (λ n. n ≤ 16) (length-map p.agents agent_content ∙ sym (length-map p.agents (λ (agent : PAgent). agent.name))) agents))
-    (both_none (past 64 many.Atoms (map (λ (atom : PAtom). atom.name) p.atoms)) (past 256 many.Outcomes (out_names p.atoms))
+    (none_or_none (past 64 many.Atoms (map (λ (atom : PAtom). atom.name) p.atoms)) (past 256 many.Outcomes (out_names p.atoms))
     (none_past 64 many.Atoms _ (subst (λ n. n ≤ 64) (length-map p.atoms atom_content ∙ sym (length-map p.atoms (λ (atom : PAtom). atom.name))) atoms))
     (none_past 256 many.Outcomes (out_names p.atoms) (subst (λ n. n ≤ 256) (outs-count 0 p.atoms) outs)))
 
 -- words with other bytes
 apart : (one two : Word) → two.text ≢ one.text → same one two ≡ false
-apart one two h = false_from (same one two) (λ t. h ((bytes_eq-Decides two.text one.text).0 t))
+apart one two h = false_from_ne_true (same one two) (λ t. h ((bytes_eq-Decides two.text one.text).0 t))
 
 module _ {A : Type 0} (name : A → Word) where
   none_before : (before : List A) (x : A) → All (λ y. (name y).text ≢ (name x).text) before → word_if (list_any (λ y. same (name x) (name y)) before) (name x) ≡ None
@@ -66,29 +66,15 @@ module _ {A : Type 0} (name : A → Word) where
 none_in_agents : (agents : List PAgent) → AreDifferent (map (λ (agent : AgentContent). agent.name) (map agent_content agents)) → twice_in_agents agents ≡ None
 none_in_agents agents h =
     none_twice (λ (agent : PAgent). agent.name) agents
-    (AllPairs-from_map (λ (x y : AgentContent). x.name ≢ y.name) agent_content agents (AllPairs-from_map Differ (λ (agent : AgentContent). agent.name) (map agent_content agents) h))
+    (AllPairs-unmap (λ (x y : AgentContent). x.name ≢ y.name) agent_content agents (AllPairs-unmap Differ (λ (agent : AgentContent). agent.name) (map agent_content agents) h))
 
 none_in_words : (words : List Word) → AreDifferent (texts words) → repeated words ≡ None
-none_in_words words h = none_twice (λ (w : Word). w) words (AllPairs-from_map Differ (λ (w : Word). w.text) words h)
+none_in_words words h = none_twice (λ (w : Word). w) words (AllPairs-unmap Differ (λ (w : Word). w.text) words h)
 
 none_in_case : (c : PCase) → AreDifferent (assigned_names (case_content c)) → twice_in_case c ≡ None
 none_in_case c h =
     none_twice (λ (set : PSet). set.agent) c.sets
-    (AllPairs-from_map (λ (x y : SetContent). x.agent ≢ y.agent) set_content c.sets (AllPairs-from_map Differ (λ (set : SetContent). set.agent) (map set_content c.sets) h))
-
--- pairs of a joined list: of the one, of the other, and of one of each
-module _ {X : Type 0} (R : X → X → Type 0) where
-  AllPairs-front : (xs ys : List X) → AllPairs R (xs ++ ys) → AllPairs R xs
-  AllPairs-front [] ys h = no_pairs R
-  AllPairs-front (x ∷ xs) ys h = AllPairs-cons R x xs (All-front (R x) xs ys (AllPairs-head R x (xs ++ ys) h)) (AllPairs-front xs ys (AllPairs-tail R x (xs ++ ys) h))
-
-  AllPairs-back : (xs ys : List X) → AllPairs R (xs ++ ys) → AllPairs R ys
-  AllPairs-back [] ys h = h
-  AllPairs-back (x ∷ xs) ys h = AllPairs-back xs ys (AllPairs-tail R x (xs ++ ys) h)
-
-  AllPairs-between : (xs ys : List X) → AllPairs R (xs ++ ys) → All (λ x. All (R x) ys) xs
-  AllPairs-between [] ys h = All-nil (λ x. All (R x) ys)
-  AllPairs-between (x ∷ xs) ys h = All-cons (λ z. All (R z) ys) x xs (All-back (R x) xs ys (AllPairs-head R x (xs ++ ys) h)) (AllPairs-between xs ys (AllPairs-tail R x (xs ++ ys) h))
+    (AllPairs-unmap (λ (x y : SetContent). x.agent ≢ y.agent) set_content c.sets (AllPairs-unmap Differ (λ (set : SetContent). set.agent) (map set_content c.sets) h))
 
 -- the agents on the next line differ from this one, where it is for this atom
 abbrev Others : List ℕ → List ℕ → PNext → Type 0
@@ -135,7 +121,7 @@ first_apart n ns h k d l is i x inside j y within =
     others n.atom.text (get_or n.agents i x).text ns mine k d l ((bytes_eq-Decides m.atom.text n.atom.text).1 (sym ((bytes_eq-Decides n.atom.text m.atom.text).0 is))) j y within
 
 all_apart : (nexts : List PNext) → AreSentOnce nexts → AllPairs Apart nexts
-all_apart [] h = no_pairs Apart
+all_apart [] h = AllPairs-nil Apart
 all_apart (n ∷ ns) h = AllPairs-cons Apart n ns (first_apart n ns h) (all_apart ns (sent_rest n ns h))
 
 -- the agents on a next line differ
@@ -145,7 +131,7 @@ IsOnce next = AllPairs (λ (x y : Word). x.text ≢ y.text) next.agents
 all_once : (nexts : List PNext) → AreSentOnce nexts → All IsOnce nexts
 all_once [] h = All-nil IsOnce
 all_once (n ∷ ns) h =
-    All-cons IsOnce n ns (AllPairs-from_map Differ (λ (w : Word). w.text) n.agents (AllPairs-front Differ (texts n.agents) (sent_names (map next_content ns) n.atom.text) (own_first n ns h)))
+    All-cons IsOnce n ns (AllPairs-unmap Differ (λ (w : Word). w.text) n.agents (AllPairs-front Differ (texts n.agents) (sent_names (map next_content ns) n.atom.text) (own_first n ns h)))
     (all_once ns (sent_rest n ns h))
 
 none_on_next : (earlier : List PNext) (next : PNext) → All (λ one. Apart one next) earlier → IsOnce next → twice_on_next earlier next ≡ None
@@ -161,25 +147,25 @@ none_on_next earlier next h once =
 
 none_in_out : (out : POut) → IsOutOnce out → twice_in_out out ≡ None
 none_in_out out h =
-    both_none (first_among twice_in_case out.cases) (twice_on_nexts out.nexts)
+    none_or_none (first_among twice_in_case out.cases) (twice_on_nexts out.nexts)
     (none_among twice_in_case out.cases (λ k d l. none_in_case (get_or out.cases k d) (All-unmap (λ case. AreDifferent (assigned_names case)) case_content out.cases h.cases k d l)))
     (none_again twice_on_next Apart IsOnce none_on_next out.nexts (all_apart out.nexts h.sent) (all_once out.nexts h.sent))
 
 none_in_atom : (atom : PAtom) → IsAtomOnce atom → twice_in_atom atom ≡ None
 none_in_atom atom h =
-    both_none (repeated atom.parties) (twice_in_outs atom.outs) (none_in_words atom.parties h.parties)
+    none_or_none (repeated atom.parties) (twice_in_outs atom.outs) (none_in_words atom.parties h.parties)
     (none_again twice_from_out (λ (x y : POut). x.name.text ≢ y.name.text) IsOutOnce
-    (λ before out k once. both_none (out_again before out) (twice_in_out out) (none_before (λ (o : POut). o.name) before out k) (none_in_out out once))
-    atom.outs (AllPairs-from_map (λ (x y : OutContent). x.name ≢ y.name) out_content atom.outs (AllPairs-from_map Differ (λ (out : OutContent). out.name) (map out_content atom.outs) h.outcomes)) h.outs)
+    (λ before out k once. none_or_none (out_again before out) (twice_in_out out) (none_before (λ (o : POut). o.name) before out k) (none_in_out out once))
+    atom.outs (AllPairs-unmap (λ (x y : OutContent). x.name ≢ y.name) out_content atom.outs (AllPairs-unmap Differ (λ (out : OutContent). out.name) (map out_content atom.outs) h.outcomes)) h.outs)
 
 -- nothing stands twice where all is named once
 pub none_in : (p : Parsed) → AreNamedOnce (content_of p) → twice_in p ≡ None
 none_in p once =
-    both_none (twice_in_agents p.agents) (twice_in_atoms p.atoms) (none_in_agents p.agents once.agents)
+    none_or_none (twice_in_agents p.agents) (twice_in_atoms p.atoms) (none_in_agents p.agents once.agents)
     (none_again twice_from_atom (λ (x y : PAtom). x.name.text ≢ y.name.text) IsAtomOnce
-    (λ before atom k each. both_none (atom_again before atom) (twice_in_atom atom) (none_before (λ (a : PAtom). a.name) before atom k) (none_in_atom atom each))
+    (λ before atom k each. none_or_none (atom_again before atom) (twice_in_atom atom) (none_before (λ (a : PAtom). a.name) before atom k) (none_in_atom atom each))
     p.atoms
-    (AllPairs-from_map (λ (x y : AtomContent). x.name ≢ y.name) atom_content p.atoms (AllPairs-from_map Differ (λ (atom : AtomContent). atom.name) (map atom_content p.atoms) once.atoms))
+    (AllPairs-unmap (λ (x y : AtomContent). x.name ≢ y.name) atom_content p.atoms (AllPairs-unmap Differ (λ (atom : AtomContent). atom.name) (map atom_content p.atoms) once.atoms))
     (λ k d l.
     let atom = get_or p.atoms k d in
     let at = slice_get-get_or p.atoms k d l in

@@ -7,6 +7,8 @@ use Rattle.std.specs.List.{All, list_any}
 use Rattle.std.specs.Option.{option_map}
 use Rattle.nego_base.specs.declared.line.Word.{Word}
 use Rattle.nego_base.specs.Members.{is_in}
+use Rattle.nego_base.proofs.BoolLaws.{any_from_place}
+use Rattle.nego_base.proofs.ListLaws.{All-front, All-back, All-unmap}
 use Rattle.nego_reader.specs.declared.parsed.Parsed.{Parsed}
 use Rattle.nego_reader.specs.declared.parsed.PAgent.{PAgent}
 use Rattle.nego_reader.specs.declared.parsed.PAtom.{PAtom}
@@ -18,10 +20,7 @@ use Rattle.nego_shape.specs.Made.{placed_at}
 use Rattle.nego_shape.specs.Shaped.{AreNamedOnce, IsDeclared, IsParty, IsSent}
 use Rattle.nego_shape.specs.Faults.{same, stands_in, is_party_at}
 use Rattle.nego_shape.proofs.Places.{place_of-at}
-use Rattle.nego_shape.proofs.ShapedCases.{All-front, All-back}
-use Rattle.nego_shape.proofs.SoundRules.{All-unmap}
 use Rattle.nego_shape.proofs.SoundPlaces.{place_is, agent_at, stand, party_stands}
-use Rattle.nego_shape.proofs.FaultlessSearches.{any_passes}
 
 outs_each : (P : ℕ → OutContent → Type 0) (n : ℕ) (atoms : List PAtom) → All (λ placed. P placed.atom placed.out) (outs_from n (map atom_content atoms)) → (i : ℕ) (atom : PAtom) → slice_get atoms i ≡ Some atom →
     All (λ (out : POut). P (n + i) (out_content out)) atom.outs
@@ -71,7 +70,7 @@ module _ (p : Parsed) (once : AreNamedOnce (content_of p)) where
   party_named name a agent there declared h =
       let n = place_of name.text (atom_names (content_of p)) in
       let r = atom_of name.text declared in
-      any_passes (λ (atom : PAtom). same name atom.name && stands_in atom.parties agent.name) p.atoms n r.atom r.at
+      any_from_place (λ (atom : PAtom). same name atom.name && stands_in atom.parties agent.name) p.atoms n r.atom r.at
       (and_from (same name r.atom.name) (stands_in r.atom.parties agent.name) ((bytes_eq-Decides r.atom.name.text name.text).1 r.is) (party_stands p once n r.atom r.at a agent there h))
 
   -- an agent stands on next lines by name as it does by number

@@ -8,6 +8,9 @@ use Rattle.std.specs.List.{All, list_any}
 use Rattle.std.specs.Option.{option_map}
 use Rattle.nego_base.specs.declared.line.Word.{Word}
 use Rattle.nego_base.specs.declared.ids.AgentId.{AgentId}
+use Rattle.nego_base.proofs.BoolLaws.{not_true, both_false}
+use Rattle.nego_base.proofs.Firsts.{none_among, none_numbered}
+use Rattle.nego_base.proofs.ListLaws.{All-at, All-unmap}
 use Rattle.nego_reader.specs.declared.parsed.Parsed.{Parsed}
 use Rattle.nego_reader.specs.declared.parsed.PAgent.{PAgent}
 use Rattle.nego_reader.specs.declared.parsed.PAtom.{PAtom}
@@ -19,10 +22,9 @@ use Rattle.nego_shape.specs.declared.fault.ShapeKind.TheVariants as kinds
 use Rattle.nego_shape.specs.Naming.{place_of, atom_names, all_outs}
 use Rattle.nego_shape.specs.Shaped.{AreNamedOnce, AreAllDeclared, IsDeclared, IsParty, IsNamedParty, IsSent, last_number}
 use Rattle.nego_shape.specs.Faults.{fault_on, same, stands_in, is_party_at, is_last, lacks, agent_fault, no_party, no_party_at, no_outcome, no_outcome_at, is_missing, is_stranger, next_stranger_on, atom_number, broken}
-use Rattle.nego_shape.proofs.SoundPlaces.{any_at, all_slice, party_from, party_stands, last_is, is_last_at}
-use Rattle.nego_shape.proofs.SoundRules.{All-unmap}
+use Rattle.nego_shape.proofs.SoundPlaces.{any_at, party_from, party_stands, last_is, is_last_at}
 use Rattle.nego_shape.proofs.FaultlessPlaces.{each_placed, agent_place, party_named, sent_named}
-use Rattle.nego_shape.proofs.FaultlessSearches.{none_mapped, none_if, none_where, none_unless, not_true, both_false, none_among, none_numbered, none_agents, none_broken}
+use Rattle.nego_shape.proofs.FaultlessSearches.{none_mapped, none_if, none_where, none_unless, none_agents, none_broken}
 
 not_zero : (n : ℕ) → 0 < n → (n == 0) ≡ false
 not_zero n h = grind (arith, nat_tests)
@@ -77,7 +79,7 @@ module _ (p : Parsed) (once : AreNamedOnce (content_of p)) (declared : AreAllDec
       let there = slice_get-get_or p.agents a e q in
       both_false (stands_in next.agents agent.name) (not (stands_in atom.parties agent.name && is_party_at p.atoms next.atom agent)) (λ s.
       let r = any_at (same agent.name) next.agents s in
-      let two = all_slice (λ (w : Word). IsNamedParty (content_of p) n w.text × IsNamedParty (content_of p) (place_of next.atom.text (atom_names (content_of p))) w.text) next.agents r.place r.item words r.at in
+      let two = All-at (λ (w : Word). IsNamedParty (content_of p) n w.text × IsNamedParty (content_of p) (place_of next.atom.text (atom_names (content_of p))) w.text) next.agents r.place r.item words r.at in
       let is = agent_place p once a agent there r.item r.passes in
       not_true (stands_in atom.parties agent.name && is_party_at p.atoms next.atom agent)
       (and_from (stands_in atom.parties agent.name) (is_party_at p.atoms next.atom agent)

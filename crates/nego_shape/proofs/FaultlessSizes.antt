@@ -10,6 +10,8 @@ use Rattle.std.specs.Prelude.{◌↔◌}
 use Rattle.std.specs.List.{All, position}
 use Rattle.std.specs.Option.{option_map, option_or}
 use Rattle.nego_base.specs.declared.ids.AgentId.{AgentId}
+use Rattle.nego_base.specs.Firsts.{first_numbered}
+use Rattle.nego_base.proofs.ListLaws.{All-unmap}
 use Rattle.nego_data.specs.declared.joint_data.SizeFault.{SizeFault}
 use Rattle.nego_data.specs.declared.joint_data.SizeFault.TheVariants as faults
 use Rattle.nego_data.specs.Data.{data_count}
@@ -21,12 +23,10 @@ use Rattle.nego_reader.specs.declared.parsed.PAgent.{PAgent}
 use Rattle.nego_shape.specs.declared.fault.ShapeFault.{ShapeFault}
 use Rattle.nego_shape.specs.declared.fault.ShapeKind.{ShapeKind}
 use Rattle.nego_shape.specs.declared.fault.ShapeKind.TheVariants as kinds
-use Rattle.nego_shape.specs.Firsts.{first_numbered}
 use Rattle.nego_shape.specs.Faults.{fault_on, zero_size, size_too_large, joint_from, joint_too_large, size_fault}
 use Rattle.nego_shape.specs.Laws.{kind_of}
 use Rattle.nego_shape.proofs.FirstLaws.{or_found, or_missed}
 use Rattle.nego_shape.proofs.PartsMade.{sizes_read}
-use Rattle.nego_shape.proofs.SoundRules.{All-unmap}
 use Rattle.nego_shape.proofs.FaultlessSearches.{none_if}
 use Rattle.nego_shape.proofs.FaultlessCases.{not_above, first_factor, none_zero, none_large, none_of_bounds}
 

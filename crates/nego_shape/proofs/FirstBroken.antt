@@ -7,6 +7,9 @@ use Rattle.std.proofs.lemmas.List.Elements.{All-map}
 use Rattle.std.specs.List.{All}
 use Rattle.std.specs.Option.{option_or}
 use Rattle.nego_base.specs.declared.line.Word.{Word}
+use Rattle.nego_base.proofs.OptionLaws.{or_none, map_none, if_none}
+use Rattle.nego_base.proofs.Firsts.{numbered_none}
+use Rattle.nego_base.proofs.ListLaws.{none_at, All-unmap}
 use Rattle.nego_reader.specs.declared.parsed.Parsed.{Parsed}
 use Rattle.nego_reader.specs.declared.parsed.PAgent.{PAgent}
 use Rattle.nego_reader.specs.declared.parsed.PAtom.{PAtom}
@@ -20,11 +23,9 @@ use Rattle.nego_shape.proofs.ConditionLaws.{place, first_at, form_shape}
 use Rattle.nego_shape.specs.Naming.{sizes_in}
 use Rattle.nego_shape.specs.Shaped.{AreNamedOnce, AreAllDeclared}
 use Rattle.nego_shape.specs.Faults.{fault_on, past, out_names, twice_in, unknown_in, zero_size, zero_size_at, size_too_large, size_too_large_at, joint_too_large, form_fault, not_total, shape_fault}
-use Rattle.nego_shape.proofs.Misses.{or_none, map_none, if_none, numbered_none}
-use Rattle.nego_shape.proofs.OutNames.{few_items}
 use Rattle.nego_shape.proofs.SoundNames.{some_agent, outs-count, named_once}
 use Rattle.nego_shape.proofs.SoundDeclared.{all_declared}
-use Rattle.nego_shape.proofs.SoundRules.{All-unmap, some_party, some_outcome, all_at, all_sent, no_stranger, last_ends}
+use Rattle.nego_shape.proofs.SoundRules.{some_party, some_outcome, all_at, all_sent, no_stranger, last_ends}
 use Rattle.nego_shape.proofs.SoundCases.{parties_alone, below, sizes_fit}
 use Rattle.nego_shape.proofs.SoundShape.{shaped_form, total}
 use Rattle.nego_shape.proofs.FaultlessSearches.{none_mapped}
@@ -38,7 +39,7 @@ use Rattle.nego_shape.proofs.KindRanks.{rank, check, form_made, all_made}
 
 -- no name past so many, and no more names than so many
 few : (most : ℕ) (what : Many) (names : List Word) → past most what names ≡ None → length names ≤ most
-few most what names h = few_items names most (map_none (λ (word : Word). fault_on word.line (kinds.TooMany what)) (slice_get names most) h)
+few most what names h = none_at names most (map_none (λ (word : Word). fault_on word.line (kinds.TooMany what)) (slice_get names most) h)
 
 none_past : (most : ℕ) (what : Many) (names : List Word) → length names ≤ most → past most what names ≡ None
 none_past most what names h = none_mapped (λ (word : Word). fault_on word.line (kinds.TooMany what)) (slice_get names most) (slice_get_past names most h)

@@ -1,14 +1,9 @@
 -- Joint data that a fault tells are joint data of the text's sizes.
-use Rattle.std.proofs.Common.{◌≡◌, ℕ, ◌+◌, ◌*◌, ◌<◌, Bool, true, false, not, cond, nat_lt, ◌==◌, List, [], ◌∷◌, length, map, slice_get, Option, Some, None, refl, subst}
+use Rattle.std.proofs.Common.{◌≡◌, ℕ, ◌+◌, ◌*◌, Bool, true, false, cond, nat_lt, ◌==◌, List, [], ◌∷◌, length, map, slice_get, Option, Some, None, refl, subst}
 use Rattle.std.specs.Prelude.{IfSome, position}
-use Rattle.std.specs.List.{list_any, range_with_len}
 use Rattle.std.specs.Option.{option_or, option_map}
-use Rattle.std.proofs.lemmas.List.FromFn.{length-range_with_len}
-use Rattle.std.proofs.lemmas.List.Quantifiers.{position-Some}
 use Rattle.nego_base.specs.declared.ids.AgentId.{AgentId}
-use Rattle.nego_data.specs.declared.cases.Case.{Case}
-use Rattle.nego_data.specs.Cases.{covers}
-use Rattle.nego_data.specs.Data.{data_count, split}
+use Rattle.nego_base.specs.Firsts.{first_among, first_numbered}
 use Rattle.nego_data.specs.Sizes.{AreSizes}
 use Rattle.nego_reader.specs.declared.parsed.Parsed.{Parsed}
 use Rattle.nego_reader.specs.declared.parsed.PAgent.{PAgent}
@@ -24,9 +19,10 @@ use Rattle.nego_shape.specs.declared.fault.ShapeFault.{ShapeFault}
 use Rattle.nego_shape.specs.declared.fault.ShapeKind.{ShapeKind}
 use Rattle.nego_shape.specs.declared.fault.ShapeKind.TheVariants as kinds
 use Rattle.nego_shape.specs.Answer.{Tells, AreJointIn, HasJoint}
-use Rattle.nego_shape.specs.Firsts.{first_among, first_numbered}
 use Rattle.nego_shape.specs.Naming.{sizes_in, cases_in}
-use Rattle.nego_shape.specs.Faults.{fault_on, no_agent, past, out_names, too_many, twice, twice_in, unknown, unknown_in, no_party_at, no_party, no_outcome_at, no_outcome, lacks, party_fault, is_last, is_missing, is_stranger, is_outside, is_overfull, agent_fault, atom_number, case_line, next_stranger_on, not_party_on, value_too_large_on, broken_at, broken_among, broken_from, next_fault, broken, zero_size_at, zero_size, size_too_large_at, size_too_large, joint_from, joint_too_large, size_fault, inner_fault, form_fault, first_uncovered, not_total_at, not_total_among, not_total_from, not_total}
+use Rattle.nego_data.specs.CaseForm.{first_uncovered}
+use Rattle.nego_data.proofs.Uncovered.{first-uncovered}
+use Rattle.nego_shape.specs.Faults.{fault_on, no_agent, past, out_names, too_many, twice, twice_in, unknown, unknown_in, no_party_at, no_party, no_outcome_at, no_outcome, lacks, party_fault, is_last, is_missing, is_stranger, is_outside, is_overfull, agent_fault, atom_number, case_line, next_stranger_on, not_party_on, value_too_large_on, broken_at, broken_among, broken_from, next_fault, broken, zero_size_at, zero_size, size_too_large_at, size_too_large, joint_from, joint_too_large, size_fault, inner_fault, form_fault, not_total_at, not_total_among, not_total_from, not_total}
 
 module _ {B : Type 0} (P : B → Type 0) where
   or_has : (o rest : Option B) → IfSome o P → IfSome rest P → IfSome (option_or o rest) P
@@ -139,11 +135,6 @@ module _ (p : Parsed) where
       (or_has Joint (twice p) _ (map_has Joint (λ word. fault_on word.line (kinds.Twice word.text)) (twice_in p) (λ w e. tt))
       (or_has Joint (unknown p) (inner_fault p) (map_has Joint (λ word. fault_on word.line (kinds.Unknown word.text)) (unknown_in p) (λ w e. tt)) inner_joint)))
 
-  below : (sizes : List ℕ) (cases : List Case) (d : ℕ) → first_uncovered sizes cases ≡ Some d → d < data_count sizes
-  below sizes cases d h =
-      let within = (position-Some (λ e. not (list_any (λ case. covers case (split sizes e)) cases)) (range_with_len 0 (data_count sizes)) d 0 h).0 in
-      subst (λ n. d < n) (length-range_with_len 0 (data_count sizes)) within
-
   module _ (sizes : AreSizes (sizes_in (content_of p))) where
     from_joint : (o : ℕ) (atoms : List PAtom) → IfSome (not_total_from p o atoms) Joint
     unfolding not_total_from
@@ -152,7 +143,7 @@ module _ (p : Parsed) where
         or_has Joint (not_total_among p o atom.outs) (not_total_from p (o + length atom.outs) atoms)
         (numbered_has Joint (λ i out. not_total_at p (o + i) out) 0 atom.outs
         (λ i out. map_has Joint (λ d. fault_on out.name.line (kinds.NotTotal (record { 0 = o + i }) d)) (first_uncovered (sizes_in (content_of p)) (cases_in (content_of p) (out_content out)))
-        (λ d e. (sizes, below (sizes_in (content_of p)) (cases_in (content_of p) (out_content out)) d e))))
+        (λ d e. (sizes, (first-uncovered (sizes_in (content_of p)) (cases_in (content_of p) (out_content out)) d e).below))))
         (from_joint (o + length atom.outs) atoms)
 
     -- the joint data of an outcome that isn't total

@@ -4,6 +4,8 @@ use Rattle.std.proofs.lemmas.Option.{same_Some, none-some}
 use Rattle.std.specs.Option.{option_or, option_map}
 use Rattle.nego_base.specs.declared.line.Word.{Word}
 use Rattle.nego_base.specs.declared.ids.AgentId.{AgentId}
+use Rattle.nego_base.proofs.OptionLaws.{map_some, if_some}
+use Rattle.nego_base.proofs.Firsts.{numbered_some, among_some}
 use Rattle.nego_reader.specs.declared.parsed.Parsed.{Parsed}
 use Rattle.nego_reader.specs.declared.parsed.PAgent.{PAgent}
 use Rattle.nego_reader.specs.declared.parsed.PAtom.{PAtom}
@@ -19,9 +21,10 @@ use Rattle.nego_shape.specs.declared.fault.ShapeKind.{ShapeKind}
 use Rattle.nego_shape.specs.declared.fault.ShapeKind.TheVariants as kinds
 use Rattle.nego_shape.proofs.ConditionLaws.{rank_of}
 use Rattle.nego_shape.specs.Naming.{sizes_in, cases_in}
-use Rattle.nego_shape.specs.Faults.{fault_on, no_agent, past, out_names, too_many, twice, twice_in, unknown, unknown_in, no_party, no_party_at, no_outcome, no_outcome_at, lacks, is_party_at, agent_fault, is_last, is_missing, next_stranger_on, is_stranger, atom_number, not_party_on, case_line, is_outside, value_too_large_on, is_overfull, broken_at, broken_from, broken, party_fault, next_fault, zero_size, zero_size_at, size_too_large, size_too_large_at, joint_from, joint_too_large, size_fault, inner_fault, form_fault, first_uncovered, not_total_at, not_total_from, not_total, shape_fault}
+use Rattle.nego_data.specs.CaseForm.{first_uncovered}
+use Rattle.nego_shape.specs.Faults.{fault_on, no_agent, past, out_names, too_many, twice, twice_in, unknown, unknown_in, no_party, no_party_at, no_outcome, no_outcome_at, lacks, is_party_at, agent_fault, is_last, is_missing, next_stranger_on, is_stranger, atom_number, not_party_on, case_line, is_outside, value_too_large_on, is_overfull, broken_at, broken_from, broken, party_fault, next_fault, zero_size, zero_size_at, size_too_large, size_too_large_at, joint_from, joint_too_large, size_fault, inner_fault, form_fault, not_total_at, not_total_from, not_total, shape_fault}
 use Rattle.nego_shape.proofs.Ranks.{Ranked, one_check, two_checks}
-use Rattle.nego_shape.proofs.Tellings.{map_some, if_some, numbered_some, among_some, agent_some, OutFound, IsCleanOf, out_some}
+use Rattle.nego_shape.proofs.Tellings.{agent_some, OutFound, IsCleanOf, out_some}
 
 -- the rank of a fault's kind
 abbrev pub rank : ShapeFault → ℕ

@@ -11,7 +11,6 @@ pub mod BrokenLaws
 pub mod FirstLaws
 pub mod Gathering
 pub mod Mentioned
-pub mod Misses
 pub mod OutNames
 pub mod Outs
 pub mod PartsMade

@@ -4,9 +4,9 @@ use Rattle.std.specs.Str.{bytes_eq}
 use Rattle.std.proofs.lemmas.List.{length-map, length-take-le, map-append, get_or-map, get_or-take, take_more}
 use Rattle.std.proofs.lemmas.List.Folds.{list_any_none}
 use Rattle.std.proofs.lemmas.Slice.Eq.{bytes_eq-Decides}
+use Rattle.std.proofs.lemmas.Bool.{false_from_ne_true}
 use Rattle.indexmap.specs.IndexSet.{insert_key}
 use Rattle.nego_shape.specs.Shaped.{AreDifferent}
-use Rattle.nego_shape.proofs.SoundPlaces.{false_from}
 
 module _ {X : Type 0} (name_of : X → List ℕ) (xs : List X) (differ : AreDifferent (map name_of xs)) (i : ℕ) (x : X) (below : i < length xs) (is : x ≡ get_or xs i x) where
   -- the name of an item differs from those before it
@@ -19,7 +19,7 @@ module _ {X : Type 0} (name_of : X → List ℕ) (xs : List X) (differ : AreDiff
       let there : get_or (map name_of (take i xs)) k d ≡ get_or (map name_of xs) k (name_of x) =
       get_or-map name_of (take i xs) k x d short ∙ (ap name_of (get_or-take i xs k x fore) ∙ sym (get_or-map name_of xs k x (name_of x) (omega (arith, fore, below)))) in
       let here : get_or (map name_of xs) i (name_of x) ≡ name_of x = get_or-map name_of xs i x (name_of x) below ∙ ap name_of (sym is) in
-      false_from (bytes_eq (name_of x) (get_or (map name_of (take i xs)) k d))
+      false_from_ne_true (bytes_eq (name_of x) (get_or (map name_of (take i xs)) k d))
       (λ t. differ k i (name_of x) fore (omega (arith, below, long)) (sym there ∙ (sym ((bytes_eq-Decides (name_of x) (get_or (map name_of (take i xs)) k d)).0 t) ∙ sym here)))
 
   -- so it is put behind them

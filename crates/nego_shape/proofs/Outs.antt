@@ -2,14 +2,14 @@
 use Rattle.std.proofs.Common.{◌≡◌, ◌≢◌, ⊎_elim, ℕ, zero, suc, ◌+◌, ◌<◌, ◌≤◌, List, [], ◌∷◌, ◌++◌, length, map, get_or, Some, slice_get, refl, sym, subst, ap, ◌∙◌, arith, append-nil}
 use Rattle.std.proofs.lemmas.Bool.{cases_lt}
 use Rattle.std.proofs.lemmas.Option.{same_Some, none-some}
-use Rattle.std.proofs.lemmas.List.{length-map, map-append, get_or-map}
+use Rattle.std.proofs.lemmas.List.{length-map, map-append}
 use Rattle.std.proofs.lemmas.List.Elements.{All-nil, All-append, All-map, All-head, All-tail, All-weaker}
 use Rattle.std.specs.List.{All, AllPairs, range_with_len}
 use Rattle.std.specs.List.Sorted.{IsNonDecreasingBy}
+use Rattle.nego_base.proofs.PairLaws.{AllPairs-append, AllPairs-map, AllPairs-nil, AllPairs-unmap}
 use Rattle.nego_model.specs.declared.parts.AtomPart.{AtomPart}
 use Rattle.nego_model.specs.Diagram.{PlainOutcome, outcomes_from}
 use Rattle.nego_model.proofs.diagrams.OutcomeNumbers.{outcomes_from-append, outcomes_from-all, outcomes_from-none}
-use Rattle.nego_model.proofs.PairLaws.{AllPairs-append, AllPairs-map}
 use Rattle.nego_reader.specs.Content.{Content, AtomContent, OutContent}
 use Rattle.nego_shape.specs.Naming.{PlacedOut, outs_from, outcome_in}
 use Rattle.nego_shape.specs.Made.{placed_at, part_in, parts_from}
@@ -18,18 +18,6 @@ use Rattle.nego_shape.specs.Made.{placed_at, part_in, parts_from}
 some_range : {X : Type 0} (k : ℕ) (xs : List X) → xs ≢ [] → range_with_len k (length xs) ≢ []
 some_range k [] some = absurd (some refl)
 some_range k (x ∷ xs) some = λ e. cc
-
--- the empty list has no pairs
-pub no_pairs : {X : Type 0} (R : X → X → Type 0) → AllPairs R []
-no_pairs R i j d before within = absurd (omega (arith, within))
-
--- what holds of pairs of what items are mapped to, holds of pairs of items
-pub AllPairs-from_map : {X Y : Type 0} (R : Y → Y → Type 0) (f : X → Y) (xs : List X) → AllPairs R (map f xs) → AllPairs (λ x y. R (f x) (f y)) xs
-AllPairs-from_map R f xs h i j d before within =
-    let k : i < length xs = omega (arith, before, within) in
-    let all : length (map f xs) ≡ length xs = length-map xs f in
-    let r = h i j (f d) before (omega (arith, all, within)) in
-    subst (λ x. R x (f (get_or xs j d))) (get_or-map f xs i d (f d) k) (subst (λ y. R (get_or (map f xs) i (f d)) y) (get_or-map f xs j d (f d) within) r)
 
 -- numbers of which no later one is less are in order
 pub nondecreasing : {X : Type 0} (number : X → ℕ) (xs : List X) → AllPairs (λ x y. number x ≤ number y) xs → IsNonDecreasingBy number xs
@@ -60,7 +48,7 @@ outs-within n (atom ∷ atoms) =
 
 -- outcomes stand in the order of their atoms
 pub outs-in_order : (n : ℕ) (atoms : List AtomContent) → AllPairs (λ one two. one.atom ≤ two.atom) (outs_from n atoms)
-outs-in_order n [] = no_pairs (λ (one two : PlacedOut). one.atom ≤ two.atom)
+outs-in_order n [] = AllPairs-nil (λ (one two : PlacedOut). one.atom ≤ two.atom)
 outs-in_order n (atom ∷ atoms) =
     AllPairs-append (λ (one two : PlacedOut). one.atom ≤ two.atom) (map (placed_at n) atom.outs) (outs_from (n + 1) atoms)
     (AllPairs-map (λ (one two : PlacedOut). one.atom ≤ two.atom) (placed_at n) atom.outs (λ i j d before within. omega arith))
@@ -71,7 +59,7 @@ outs-in_order n (atom ∷ atoms) =
 -- outcomes of one atom have different names
 pub outs-differ : (n : ℕ) (atoms : List AtomContent) → All (λ atom. AllPairs (λ one two. one ≢ two) (map (λ out. out.name) atom.outs)) atoms →
     AllPairs (λ one two. one.atom ≡ two.atom → one.out.name ≢ two.out.name) (outs_from n atoms)
-outs-differ n [] h = no_pairs (λ (one two : PlacedOut). one.atom ≡ two.atom → one.out.name ≢ two.out.name)
+outs-differ n [] h = AllPairs-nil (λ (one two : PlacedOut). one.atom ≡ two.atom → one.out.name ≢ two.out.name)
 outs-differ n (atom ∷ atoms) h =
     AllPairs-append Differ (map (placed_at n) atom.outs) (outs_from (n + 1) atoms)
     (AllPairs-map Differ (placed_at n) atom.outs (λ i j d before within same. names (All-head Names atom atoms h) i j d before within))
@@ -87,7 +75,7 @@ outs-differ n (atom ∷ atoms) h =
     Names x = AllPairs (λ one two. one ≢ two) (map (λ out. out.name) x.outs)
 
     names : Names atom → AllPairs (λ one two. one.name ≢ two.name) atom.outs
-    names = AllPairs-from_map (λ one two. one ≢ two) (λ out. out.name) atom.outs
+    names = AllPairs-unmap (λ one two. one ≢ two) (λ out. out.name) atom.outs
 
 -- the outcomes of the diagram
 abbrev pub outcomes_of : Content → ℕ → List AtomContent → List PlainOutcome

@@ -19,8 +19,8 @@ use Rattle.nego_data.specs.declared.cases.Set.{Set}
 use Rattle.nego_reader.specs.declared.parsed.PCase.{PCase}
 use Rattle.nego_reader.specs.declared.parsed.POut.{POut}
 use Rattle.nego_reader.specs.Content.{Content, AgentContent, AtomContent, OutContent, agent_content, atom_content, out_content, case_content, test_content, set_content, content_of}
-use Rattle.nego_model.proofs.diagrams.Readers.{mapped_at}
 use Rattle.nego_base.proofs.LineLoops.{cut_at}
+use Rattle.nego_base.proofs.ListLaws.{mapped_at}
 use Rattle.nego_shape.specs.Naming.{place_of, agent_names, atom_names, sizes_in, outs_from, all_outs, test_in, set_in, case_in, atom_in, outcome_in, diagram_in}
 use Rattle.nego_shape.specs.Made.{placed_at, part_in, parts_from}
 

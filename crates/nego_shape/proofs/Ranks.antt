@@ -3,8 +3,7 @@ use Rattle.std.proofs.Common.{◌≡◌, ⊎_elim, ℕ, ◌+◌, ◌<◌, ◌≤
 use Rattle.std.proofs.lemmas.Bool.{cases_lt}
 use Rattle.std.proofs.lemmas.Option.{none-some}
 use Rattle.std.specs.Option.{option_or}
-use Rattle.nego_shape.proofs.Misses.{or_none}
-use Rattle.nego_shape.proofs.Tellings.{or_some}
+use Rattle.nego_base.proofs.OptionLaws.{or_none, or_some}
 
 module _ {X : Type 0} (rank : X → ℕ) (check : ℕ → Option X) where
   -- the check of the fault's rank gives it, and no check from `low` on before it gives any

@@ -1,9 +1,11 @@
 -- The cases of an outcome, with agents' numbers, and its table.
-use Rattle.std.proofs.Common.{◌≢◌, ℕ, List, [], ◌∷◌, ◌++◌, map, arith}
+use Rattle.std.proofs.Common.{◌≢◌, ℕ, List, [], ◌∷◌, map, arith}
 use Rattle.std.proofs.lemmas.List.Elements.{All-nil, All-cons, All-head, All-tail}
 use Rattle.std.specs.List.{All, flat_map}
 use Rattle.std.specs.Prelude.{IsTrue}
 use Rattle.nego_base.specs.Members.{is_in}
+use Rattle.nego_base.proofs.PairLaws.{AllPairs-cons, AllPairs-head, AllPairs-tail}
+use Rattle.nego_base.proofs.ListLaws.{All-front, All-back, All-each}
 use Rattle.nego_data.specs.declared.cases.Set.{Set}
 use Rattle.nego_data.specs.declared.cases.Test.{Test}
 use Rattle.nego_data.specs.Cases.{rows_of}
@@ -11,25 +13,10 @@ use Rattle.nego_data.specs.CaseForm.{NamesOnly, AssignsOnce, AssignsBelow, AreAm
 use Rattle.nego_data.proofs.Tables.{rows_of-table}
 use Rattle.nego_data.proofs.CaseRelations.{rows_of-acts, rows_of-some}
 use Rattle.nego_model.proofs.diagrams.Conditions.{TableFits}
-use Rattle.nego_model.proofs.PairLaws.{AllPairs-cons, AllPairs-head, AllPairs-tail}
 use Rattle.nego_reader.specs.Content.{Content, OutContent, CaseContent, TestContent, SetContent, RightContent, TermContent, Number, Name, AnyTerm, NumberTerm, PlusTerm, MinusTerm}
 use Rattle.nego_shape.specs.Naming.{place_of, agent_names, sizes_in, operand_in, test_in, term_in, set_in, case_in, cases_in}
 use Rattle.nego_shape.specs.Shaped.{AreDifferent, IsDeclared, right_names, test_names, term_names, set_names, case_names, assigned_names, IsAllCovered}
 use Rattle.nego_shape.proofs.Places.{place_of-same}
-
--- what all items of a list and another have, those of each have
-module _ {X : Type 0} (P : X → Type 0) where
-  pub All-front : (xs ys : List X) → All P (xs ++ ys) → All P xs
-  All-front [] ys h = All-nil P
-  All-front (x ∷ xs) ys h = All-cons P x xs (All-head P x (xs ++ ys) h) (All-front xs ys (All-tail P x (xs ++ ys) h))
-
-  pub All-back : (xs ys : List X) → All P (xs ++ ys) → All P ys
-  All-back [] ys h = h
-  All-back (x ∷ xs) ys h = All-back xs ys (All-tail P x (xs ++ ys) h)
-
-  pub All-each : {Y : Type 0} (f : Y → List X) (ys : List Y) → All P (flat_map f ys) → All (λ y. All P (f y)) ys
-  All-each f [] h = All-nil (λ y. All P (f y))
-  All-each f (y ∷ ys) h = All-cons (λ z. All P (f z)) y ys (All-front (f y) (flat_map f ys) h) (All-each f ys (All-back (f y) (flat_map f ys) h))
 
 module _ (c : Content) (parties : List ℕ) where
   -- the name is one of the parties

@@ -12,13 +12,13 @@ use Rattle.nego_base.specs.Members.{is_in, IsRising, IsRisingBelow}
 use Rattle.nego_base.specs.Name.{is_name}
 use Rattle.nego_base.proofs.Members.{in_or_not, is_in_none, nil_from_none, member_below}
 use Rattle.nego_base.proofs.BoolLaws.{same_tests}
+use Rattle.nego_base.proofs.PairLaws.{AllPairs-map, AllPairs-unmap}
 use Rattle.nego_model.specs.declared.parts.AtomPart.{AtomPart}
 use Rattle.nego_model.specs.declared.parts.Parts.{Parts}
 use Rattle.nego_model.specs.Diagram.{PlainAtom, PlainOutcome, PlainDiagram, IsDiagram, outcomes_from, parties_of}
 use Rattle.nego_model.specs.Limits.{IsWithinLimits, HasNames, AreInOrder}
 use Rattle.nego_model.specs.Parts.{plain_of, AreParts}
 use Rattle.nego_model.proofs.diagrams.Conditions.{AtomFits, OutcomeLeads, HasForm, TableFits, diagram_from_form}
-use Rattle.nego_model.proofs.PairLaws.{AllPairs-map}
 use Rattle.nego_reader.specs.Content.{Content, AgentContent, AtomContent, OutContent, NextContent}
 use Rattle.nego_shape.specs.Naming.{PlacedOut, place_of, agent_names, atom_names, sizes_in, all_outs, parties_in, parties_at, next_atoms, atom_in, outcome_in, diagram_in}
 use Rattle.nego_shape.specs.Conditions.{AllCovered, HasShape}
@@ -26,7 +26,7 @@ use Rattle.nego_shape.proofs.ConditionLaws.{shape_form}
 use Rattle.nego_shape.specs.Shaped.{IsDeclared, IsParty, IsNamedParty, IsSent, HasNameWords, first_number, last_number}
 use Rattle.nego_shape.specs.Made.{parts_from}
 use Rattle.nego_shape.proofs.Places.{parties_in-rises, some_party_in, next_atoms-rises, next_atoms-line, some_next_atom, named_place}
-use Rattle.nego_shape.proofs.Outs.{AllPairs-from_map, nondecreasing, All-outs, outs-within, outs-in_order, outs-differ, numbers, some_number}
+use Rattle.nego_shape.proofs.Outs.{nondecreasing, All-outs, outs-within, outs-in_order, outs-differ, numbers, some_number}
 use Rattle.nego_shape.proofs.ShapedCases.{cases_in-named, table_in-fits}
 
 module _ (c : Content) where
@@ -157,7 +157,7 @@ module _ (c : Content) where
       atoms = All-map (λ (atom : PlainAtom). IsTrue (is_name atom.name)) (atom_in c) c.atoms named.atoms;
       outcomes = All-map (λ (outcome : PlainOutcome). IsTrue (is_name outcome.name)) (outcome_in c) (all_outs c) (All-outs (λ out. IsTrue (is_name out.name)) 0 c.atoms named.outcomes);
       agents_differ = (shape_form c ok).named_once.agents;
-      atoms_differ = AllPairs-map (λ (m n : PlainAtom). m.name ≢ n.name) (atom_in c) c.atoms (AllPairs-from_map (λ m n. m ≢ n) (λ (atom : AtomContent). atom.name) c.atoms (shape_form c ok).named_once.atoms);
+      atoms_differ = AllPairs-map (λ (m n : PlainAtom). m.name ≢ n.name) (atom_in c) c.atoms (AllPairs-unmap (λ m n. m ≢ n) (λ (atom : AtomContent). atom.name) c.atoms (shape_form c ok).named_once.atoms);
       outcomes_differ = AllPairs-map (λ (o p : PlainOutcome). o.atom ≡ p.atom → o.name ≢ p.name) (outcome_in c) (all_outs c) (outs-differ 0 c.atoms (shape_form c ok).named_once.outcomes);
     }
 

@@ -10,6 +10,10 @@ use Rattle.std.proofs.lemmas.Slice.Eq.{bytes_eq-Decides}
 use Rattle.std.specs.List.{All, list_any, flat_map}
 use Rattle.std.specs.Option.{option_map}
 use Rattle.nego_base.specs.declared.line.Word.{Word}
+use Rattle.nego_base.proofs.OptionLaws.{if_none}
+use Rattle.nego_base.proofs.BoolLaws.{not_not, not_both, any_none}
+use Rattle.nego_base.proofs.Firsts.{among_none, numbered_none}
+use Rattle.nego_base.proofs.ListLaws.{All-at, All-back, All-each, All-unmap}
 use Rattle.nego_data.specs.declared.cases.Set.{Set}
 use Rattle.nego_data.specs.CaseForm.{AssignsBelow, FitsSize}
 use Rattle.nego_data.specs.Data.{data_count}
@@ -33,11 +37,9 @@ use Rattle.nego_shape.specs.Shaped.{AreNamedOnce, IsDeclared, IsNamedParty}
 use Rattle.nego_shape.specs.Conditions.{Holds, PartiesAlone, NoLargeValue}
 use Rattle.nego_shape.specs.Shaped as shaped
 use Rattle.nego_shape.specs.Faults.{fault_on, same, stands_in, case_line, case_names, test_names, right_names, set_names, term_names, is_outside, not_party_on, is_overfull, is_too_large, value_too_large_on, broken, unknown_in, zero_size, zero_size_at, size_too_large, size_too_large_at, joint_from, joint_too_large}
-use Rattle.nego_shape.proofs.Misses.{if_none, not_not, not_both, any_none, among_none, numbered_none}
-use Rattle.nego_shape.proofs.ShapedCases.{All-each, All-back}
 use Rattle.nego_shape.proofs.SoundDeclared.{IsOutDeclared, outs_declared}
-use Rattle.nego_shape.proofs.SoundPlaces.{Keeps, kept_by, all_slice, party_from, by_placed, agent_of}
-use Rattle.nego_shape.proofs.SoundRules.{All-unmap, no_agent_so}
+use Rattle.nego_shape.proofs.SoundPlaces.{Keeps, kept_by, party_from, by_placed, agent_of}
+use Rattle.nego_shape.proofs.SoundRules.{no_agent_so}
 
 -- a word with these bytes is named by the test
 abbrev Named : (Word → Bool) → List ℕ → Type 0
@@ -99,7 +101,7 @@ module _ (p : Parsed) (once : AreNamedOnce (content_of p)) (known : unknown_in p
   cases_declared n atom at i o l =
       let out = get_or atom.outs i o in
       All-unmap (λ (c : CaseContent). All Declared (shaped.case_names c)) case_content out.cases
-      ((all_slice (λ (x : PAtom). All Declared (texts x.parties) × All (IsOutDeclared p) x.outs) p.atoms n atom (outs_declared p known) at).1 i o l).cases
+      ((All-at (λ (x : PAtom). All Declared (texts x.parties) × All (IsOutDeclared p) x.outs) p.atoms n atom (outs_declared p known) at).1 i o l).cases
 
   -- a case of which nothing is told names parties alone
   pub parties_at : (n : ℕ) (atom : PAtom) → slice_get p.atoms n ≡ Some atom → (case : PCase) → All Declared (shaped.case_names (case_content case)) → (number : ℕ) → not_party_on p atom number case ≡ None →
@@ -107,7 +109,7 @@ module _ (p : Parsed) (once : AreNamedOnce (content_of p)) (known : unknown_in p
   parties_at n atom at case names number kept j name q =
       let word = get_or (shaped.case_names (case_content case)) j name in
       let there = agent_of p once word (names j name q) in
-      let none = all_slice (λ (x : PAgent). is_outside atom case x ≡ false) p.agents (place_of word (agent_names (content_of p))) there.agent
+      let none = All-at (λ (x : PAgent). is_outside atom case x ≡ false) p.agents (place_of word (agent_names (content_of p))) there.agent
       (no_agent_so (case_line case) (kinds.NotParty (record { 0 = number })) (is_outside atom case) p.agents kept) there.at in
       party_from p once n atom at (place_of word (agent_names (content_of p))) there.agent there.at
       (not_not (stands_in atom.parties there.agent.name) (not_both (case_names there.agent.name case) (not (stands_in atom.parties there.agent.name)) none (case_named case j name q there.agent.name there.is)))
@@ -150,7 +152,7 @@ module _ (p : Parsed) (once : AreNamedOnce (content_of p)) (known : unknown_in p
       let set = get_or case.sets j s in
       let there = agent_of p once set.agent.text (set_declared case names j s q) in
       let a = place_of set.agent.text (agent_names (content_of p)) in
-      let none = all_slice (λ (x : PAgent). is_overfull case x ≡ false) p.agents a there.agent
+      let none = All-at (λ (x : PAgent). is_overfull case x ≡ false) p.agents a there.agent
       (no_agent_so (case_line case) (kinds.ValueTooLarge (record { 0 = number })) (is_overfull case) p.agents kept) there.at in
       let fit = not_both (same there.agent.name set.agent) (is_too_large there.agent.size set.term)
       (any_none (λ (x : PSet). same there.agent.name x.agent && is_too_large there.agent.size x.term) case.sets none j s q) (same_word there.agent.name set.agent there.is) in

@@ -2,10 +2,15 @@
 use Rattle.std.proofs.Common.{◌≡◌, ℕ, ◌<◌, Bool, true, false, not, List, [], ◌∷◌, length, map, get_or, None, refl, ◌∙◌, arith}
 use Rattle.std.proofs.lemmas.Bool.{false≢true}
 use Rattle.std.proofs.lemmas.List.{length-map}
-use Rattle.std.proofs.lemmas.List.Elements.{All-nil, All-cons, All-head, All-tail, All-append, All-map}
+use Rattle.std.proofs.lemmas.List.Elements.{All-nil, All-cons, All-append, All-map}
 use Rattle.std.specs.List.{All, list_any, flat_map, position_or_len}
 use Rattle.std.specs.Str.{bytes_eq}
 use Rattle.nego_base.specs.declared.line.Word.{Word}
+use Rattle.nego_base.specs.Firsts.{first_among}
+use Rattle.nego_base.proofs.OptionLaws.{or_none, if_none}
+use Rattle.nego_base.proofs.BoolLaws.{not_not}
+use Rattle.nego_base.proofs.Firsts.{among_none}
+use Rattle.nego_base.proofs.ListLaws.{All-flat}
 use Rattle.nego_reader.specs.declared.parsed.Parsed.{Parsed}
 use Rattle.nego_reader.specs.declared.parsed.PAgent.{PAgent}
 use Rattle.nego_reader.specs.declared.parsed.PAtom.{PAtom}
@@ -19,13 +24,11 @@ use Rattle.nego_reader.specs.declared.parsed.PSet.{PSet}
 use Rattle.nego_reader.specs.declared.parsed.PTerm.{PTerm}
 use Rattle.nego_reader.specs.declared.parsed.PTerm.TheVariants as terms
 use Rattle.nego_reader.specs.Content.{AgentContent, AtomContent, OutContent, NextContent, CaseContent, TestContent, SetContent, content_of, agent_content, atom_content, out_content, next_content, case_content, test_content, set_content, right_content, term_content, texts}
-use Rattle.nego_shape.specs.Firsts.{first_among}
 use Rattle.nego_shape.specs.Naming.{agent_names, atom_names}
 use Rattle.nego_shape.specs.Shaped.{IsDeclared, AreAllDeclared, case_names, test_names, set_names, right_names, term_names}
 use Rattle.nego_shape.specs.Faults.{is_agent, is_atom, unknown_agent, unknown_atom, unknown_right, unknown_in_test, unknown_term, unknown_in_set, unknown_in_case, unknown_in_next, unknown_in_out, unknown_in_atom, unknown_in}
 use Rattle.nego_shape.proofs.Outs.{All-outs}
 use Rattle.nego_shape.proofs.Sought.{position_or_len-map}
-use Rattle.nego_shape.proofs.Misses.{or_none, if_none, not_not, among_none}
 
 -- a test that some item passes has a first place
 found : {A : Type 0} (p : A → Bool) (xs : List A) → list_any p xs ≡ true → position_or_len p xs < length xs
@@ -35,11 +38,6 @@ found p (x ∷ xs) h = go (p x) refl (found p xs)
     go : (b : Bool) → p x ≡ b → (list_any p xs ≡ true → position_or_len p xs < length xs) → position_or_len p (x ∷ xs) < length (x ∷ xs)
     go true e more = rw e (omega arith)
     go false e more = let k : list_any p xs ≡ true = rw e at h in let l = more k in rw e (omega (arith, l))
-
--- what all items of each have, all have
-pub All-flat : {X Y : Type 0} (P : X → Type 0) (f : Y → List X) (ys : List Y) → All (λ y. All P (f y)) ys → All P (flat_map f ys)
-All-flat P f [] h = All-nil P
-All-flat P f (y ∷ ys) h = All-append P (f y) (flat_map f ys) (All-head (λ z. All P (f z)) y ys h) (All-flat P f ys (All-tail (λ z. All P (f z)) y ys h))
 
 module _ (p : Parsed) where
   abbrev Agent : List ℕ → Type 0

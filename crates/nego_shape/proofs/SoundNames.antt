@@ -7,7 +7,12 @@ use Rattle.std.proofs.lemmas.Slice.Eq.{bytes_eq-Decides}
 use Rattle.std.specs.List.{All, AllPairs, list_any}
 use Rattle.std.specs.Str.{bytes_eq}
 use Rattle.nego_base.specs.declared.line.Word.{Word}
-use Rattle.nego_model.proofs.PairLaws.{AllPairs-head, AllPairs-tail, AllPairs-append, AllPairs-map}
+use Rattle.nego_base.proofs.PairLaws.{AllPairs-append, AllPairs-head, AllPairs-tail, AllPairs-map, AllPairs-nil}
+use Rattle.nego_base.specs.Firsts.{first_numbered}
+use Rattle.nego_base.proofs.OptionLaws.{or_none, map_none, if_none}
+use Rattle.nego_base.proofs.BoolLaws.{neither, not_both, any_none}
+use Rattle.nego_base.proofs.Firsts.{among_none, numbered_none, again_none}
+use Rattle.nego_base.proofs.ListLaws.{none_at}
 use Rattle.nego_reader.specs.declared.parsed.Parsed.{Parsed}
 use Rattle.nego_reader.specs.declared.parsed.PAgent.{PAgent}
 use Rattle.nego_reader.specs.declared.parsed.PAtom.{PAtom}
@@ -19,21 +24,18 @@ use Rattle.nego_reader.specs.Content.{AgentContent, AtomContent, OutContent, Set
 use Rattle.nego_shape.specs.declared.fault.Many.{Many}
 use Rattle.nego_shape.specs.declared.fault.Many.TheVariants as many
 use Rattle.nego_shape.specs.declared.fault.ShapeKind.TheVariants as kinds
-use Rattle.nego_shape.specs.Firsts.{first_numbered}
 use Rattle.nego_shape.specs.Naming.{outs_from, all_outs}
 use Rattle.nego_shape.specs.Made.{placed_at}
 use Rattle.nego_shape.specs.Shaped.{AreDifferent, AreNamedOnce, assigned_names, sent_names}
 use Rattle.nego_shape.specs.Faults.{fault_on, same, stands_in, no_agent, past, out_names, too_many, word_if, repeated, twice_in_case, twice_on_nexts, twice_on_next, twice_in_out, twice_from_out, twice_in_outs, twice_in_atom, twice_from_atom, twice_in_atoms, twice_in_agents, twice_in, leads, agent_again}
-use Rattle.nego_shape.proofs.Outs.{All-outs, no_pairs}
-use Rattle.nego_shape.proofs.OutNames.{few_items}
-use Rattle.nego_shape.proofs.Misses.{or_none, map_none, if_none, neither, not_both, any_none, among_none, numbered_none, again_none}
+use Rattle.nego_shape.proofs.Outs.{All-outs}
 
 pub some_agent : (agents : List PAgent) → no_agent agents ≡ None → 0 < length (map agent_content agents)
 some_agent [] h = absurd cc
 some_agent (agent ∷ agents) h = omega arith
 
 few : (most : ℕ) (what : Many) (names : List Word) → past most what names ≡ None → length names ≤ most
-few most what names h = few_items names most (map_none (λ (word : Word). fault_on word.line (kinds.TooMany what)) (slice_get names most) h)
+few most what names h = none_at names most (map_none (λ (word : Word). fault_on word.line (kinds.TooMany what)) (slice_get names most) h)
 
 pub outs-count : (n : ℕ) (atoms : List PAtom) → length (outs_from n (map atom_content atoms)) ≡ length (out_names atoms)
 unfolding out_names
@@ -116,7 +118,7 @@ module _ (atom : List ℕ) where
       go false e more = rw e more
 
   sent_once : (nexts : List PNext) → AllPairs Apart nexts → All (λ (n : PNext). AreDifferent (texts n.agents)) nexts → AreDifferent (sent_names (map next_content nexts) atom)
-  sent_once [] apart each = no_pairs Differ
+  sent_once [] apart each = AllPairs-nil Differ
   sent_once (n ∷ ns) apart each = go (bytes_eq n.atom.text atom) refl (sent_once ns (AllPairs-tail Apart n ns apart) (All-tail (λ (m : PNext). AreDifferent (texts m.agents)) n ns each))
     where
       go : (b : Bool) → bytes_eq n.atom.text atom ≡ b → AreDifferent (sent_names (map next_content ns) atom) → AreDifferent (sent_names (map next_content (n ∷ ns)) atom)

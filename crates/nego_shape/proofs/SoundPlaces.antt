@@ -1,7 +1,7 @@
 -- Agents and atoms by number and by name, where each is named once.
-use Rattle.std.proofs.Common.{◌≡◌, ℕ, zero, suc, ◌+◌, ◌<◌, ◌==◌, Bool, true, false, ◌&&◌, ◌||◌, List, [], ◌∷◌, length, map, get_or, Option, Some, None, slice_get, refl, sym, subst, ap, ◌∙◌, arith, eqb-true, eq-eqb}
-use Rattle.std.proofs.lemmas.Bool.{false≢true, and_parts}
-use Rattle.std.proofs.lemmas.Option.{same_Some, none-some, slice_get-map, get_or_from_slice_get}
+use Rattle.std.proofs.Common.{◌≡◌, ℕ, zero, suc, ◌+◌, ◌<◌, ◌==◌, Bool, true, ◌&&◌, ◌||◌, List, [], ◌∷◌, length, map, get_or, Option, Some, None, slice_get, refl, sym, subst, ap, ◌∙◌, arith, eqb-true, eq-eqb}
+use Rattle.std.proofs.lemmas.Bool.{and_parts, false_from_ne_true}
+use Rattle.std.proofs.lemmas.Option.{same_Some, none-some, slice_get-map, get_or_from_slice_get, slice_get_within}
 use Rattle.std.proofs.lemmas.List.{length-map}
 use Rattle.std.proofs.lemmas.List.Elements.{All-nil, All-append, All-map}
 use Rattle.std.proofs.lemmas.List.Sums.{position_or_len_is}
@@ -13,7 +13,9 @@ use Rattle.std.specs.Str.{bytes_eq}
 use Rattle.nego_base.specs.declared.line.Word.{Word}
 use Rattle.nego_base.specs.Members.{is_in}
 use Rattle.nego_base.proofs.Members.{is_in-filter, member_below}
-use Rattle.nego_base.proofs.BoolLaws.{same_tests}
+use Rattle.nego_base.proofs.BoolLaws.{same_tests, any_place}
+use Rattle.nego_base.proofs.OptionLaws.{or_none}
+use Rattle.nego_base.proofs.Firsts.{numbered_none}
 use Rattle.nego_reader.specs.declared.parsed.Parsed.{Parsed}
 use Rattle.nego_reader.specs.declared.parsed.PAgent.{PAgent}
 use Rattle.nego_reader.specs.declared.parsed.PAtom.{PAtom}
@@ -26,19 +28,6 @@ use Rattle.nego_shape.specs.Shaped.{AreDifferent, AreNamedOnce, IsDeclared, IsPa
 use Rattle.nego_shape.specs.Faults.{same, stands_in, is_party_at, is_last, broken_at, broken_among, broken_from}
 use Rattle.nego_shape.proofs.Places.{place_of-at, in_parties_in, parties_in-rises}
 use Rattle.nego_shape.proofs.Sought.{places-any}
-use Rattle.nego_shape.proofs.Misses.{or_none, numbered_none}
-
-pub false_from : (b : Bool) → (b ≡ true → ⊥) → b ≡ false
-false_from false h = refl
-false_from true h = absurd (h refl)
-
-pub some_below : {A : Type 0} (xs : List A) (i : ℕ) (x : A) → slice_get xs i ≡ Some x → i < length xs
-some_below [] i x h = absurd (none-some x h)
-some_below (y ∷ xs) zero x h = omega arith
-some_below (y ∷ xs) (suc i) x h = let k = some_below xs i x h in omega (arith, k)
-
-pub all_slice : {A : Type 0} (P : A → Type 0) (xs : List A) (i : ℕ) (x : A) → All P xs → slice_get xs i ≡ Some x → P x
-all_slice P xs i x h at = subst P (get_or_from_slice_get xs i x x at) (h i x (some_below xs i x at))
 
 any_same : {A : Type 0} (p q : A → Bool) (xs : List A) → ((x : A) → p x ≡ q x) → list_any p xs ≡ list_any q xs
 any_same p q [] h = refl
@@ -52,27 +41,22 @@ pub record Passing {A : Type 0} (p : A → Bool) (xs : List A) : Type 0 where
   pub passes : p item ≡ true
 
 pub any_at : {A : Type 0} (p : A → Bool) (xs : List A) → list_any p xs ≡ true → Passing p xs
-any_at p [] h = absurd (false≢true h)
-any_at p (x ∷ xs) h = go (p x) refl (any_at p xs)
-  where
-    go : (b : Bool) → p x ≡ b → (list_any p xs ≡ true → Passing p xs) → Passing p (x ∷ xs)
-    go true e more = record { place = 0; item = x; at = refl; passes = e }
-    go false e more = let k : list_any p xs ≡ true = rw e at h in let r = more k in record { place = suc r.place; item = r.item; at = r.at; passes = r.passes }
+any_at p xs h = let r = any_place p xs h in record { place = r.0; item = r.1; at = r.2; passes = r.3 }
 
 -- a name that stands at a place, where names differ
 pub place_is : (names : List (List ℕ)) → AreDifferent names → (a : ℕ) (name : List ℕ) → slice_get names a ≡ Some name → place_of name names ≡ a
 place_is names differ a name at =
-    let inside = some_below names a name at in
+    let inside = slice_get_within names a name at in
     let is = get_or_from_slice_get names a name name at in
     position_or_len_is (λ other. bytes_eq other name) names a name (omega (arith, inside))
-    (λ k l. false_from (bytes_eq (get_or names k name) name) (λ t. differ k a name l inside ((bytes_eq-Decides (get_or names k name) name).0 t ∙ sym is)))
+    (λ k l. false_from_ne_true (bytes_eq (get_or names k name) name) (λ t. differ k a name l inside ((bytes_eq-Decides (get_or names k name) name).0 t ∙ sym is)))
     (λ l. (bytes_eq-Decides (get_or names a name) name).1 is)
 
 place_test : (names : List (List ℕ)) → AreDifferent names → (a : ℕ) (name : List ℕ) → slice_get names a ≡ Some name → (n : List ℕ) → (place_of n names == a) ≡ bytes_eq n name
 place_test names differ a name at n =
     same_tests (place_of n names == a) (bytes_eq n name)
     (λ e. let is = eqb-true (place_of n names) a e in
-    (bytes_eq-Decides n name).1 (same_Some n name (sym (place_of-at n names (subst (λ k. k < length names) (sym is) (some_below names a name at))) ∙ (ap (slice_get names) is ∙ at))))
+    (bytes_eq-Decides n name).1 (same_Some n name (sym (place_of-at n names (subst (λ k. k < length names) (sym is) (slice_get_within names a name at))) ∙ (ap (slice_get names) is ∙ at))))
     (λ t. eq-eqb (place_of n names) a (place_is names differ a n (at ∙ ap Some (sym ((bytes_eq-Decides n name).0 t)))))
 
 -- what each outcome of each atom has
@@ -118,7 +102,7 @@ module _ (p : Parsed) (once : AreNamedOnce (content_of p)) where
       ∙ any_same (λ (w : Word). place_of w.text (agent_names (content_of p)) == a) (same agent.name) words (λ w. place_test (agent_names (content_of p)) once.agents a agent.name.text (agent_at a agent at) w.text)
 
   agent_below : (a : ℕ) (agent : PAgent) → slice_get p.agents a ≡ Some agent → a < length (content_of p).agents
-  agent_below a agent at = subst (λ n. a < n) (sym (length-map p.agents agent_content)) (some_below p.agents a agent at)
+  agent_below a agent at = subst (λ n. a < n) (sym (length-map p.agents agent_content)) (slice_get_within p.agents a agent at)
 
   parties : (n : ℕ) (atom : PAtom) → slice_get p.atoms n ≡ Some atom → parties_at (content_of p) n ≡ parties_in (content_of p) (texts atom.parties)
   parties n atom at = ap (λ (o : Option AtomContent). option_map_or (λ (x : AtomContent). parties_in (content_of p) x.parties) o []) (slice_get-map atom_content p.atoms n ∙ ap (option_map atom_content) at)

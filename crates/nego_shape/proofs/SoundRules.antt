@@ -1,15 +1,19 @@
 -- A text that keeps the rules of parties, next lines, cases and sizes has the form of a diagram.
 use Rattle.std.proofs.Common.{◌≡◌, ◌≢◌, ℕ, ◌<◌, ◌==◌, Bool, true, false, not, ◌&&◌, cond, List, [], ◌∷◌, length, map, get_or, Option, Some, None, slice_get, refl, sym, subst, ◌∙◌}
-use Rattle.std.proofs.lemmas.Bool.{false≢true, and_parts}
+use Rattle.std.proofs.lemmas.Bool.{false≢true, and_parts, false_from_ne_true}
 use Rattle.std.proofs.lemmas.Option.{none-some, slice_get-get_or}
 use Rattle.std.proofs.lemmas.List.{length-map}
-use Rattle.std.proofs.lemmas.List.Elements.{All-nil, All-cons, All-head, All-tail, All-map}
+use Rattle.std.proofs.lemmas.List.Elements.{All-map}
 use Rattle.std.proofs.lemmas.List.Folds.{list_any_at}
 use Rattle.std.proofs.lemmas.Slice.Eq.{bytes_eq-Decides}
 use Rattle.std.specs.List.{All, list_any, position}
 use Rattle.std.specs.Option.{option_map}
 use Rattle.nego_base.specs.declared.line.Word.{Word}
 use Rattle.nego_base.specs.declared.ids.AgentId.{AgentId}
+use Rattle.nego_base.proofs.OptionLaws.{map_none, if_none}
+use Rattle.nego_base.proofs.BoolLaws.{not_not, not_both}
+use Rattle.nego_base.proofs.Firsts.{among_none, numbered_none, position_none}
+use Rattle.nego_base.proofs.ListLaws.{All-at, All-unmap}
 use Rattle.nego_reader.specs.declared.parsed.Parsed.{Parsed}
 use Rattle.nego_reader.specs.declared.parsed.PAgent.{PAgent}
 use Rattle.nego_reader.specs.declared.parsed.PAtom.{PAtom}
@@ -24,13 +28,7 @@ use Rattle.nego_shape.specs.Conditions.{Holds, AllSent, NoStranger, LastEnds}
 use Rattle.nego_shape.specs.Shaped.{SendsAll, HasNoStranger, EndsLast, AreNamedOnce, IsDeclared, IsParty, IsNamedParty, IsSent}
 use Rattle.nego_shape.specs.Faults.{fault_on, same, stands_in, is_party_at, is_last, lacks, agent_fault, no_party, no_party_at, no_outcome, no_outcome_at, is_missing, next_missing_at, is_stranger, next_stranger_on, atom_number, broken, unknown_in}
 use Rattle.nego_shape.proofs.SoundDeclared.{IsOutDeclared, outs_declared, all_declared}
-use Rattle.nego_shape.proofs.Misses.{map_none, if_none, not_not, not_both, among_none, numbered_none, position_none}
-use Rattle.nego_shape.proofs.SoundPlaces.{Keeps, kept_by, all_slice, false_from, stand, party_from, party_stands, party_at, last_is, is_last_at, by_placed, party_below, agent_of}
-
--- what mapped items have
-pub All-unmap : {X Y : Type 0} (P : Y → Type 0) (f : X → Y) (xs : List X) → All P (map f xs) → All (λ x. P (f x)) xs
-All-unmap P f [] h = All-nil (λ x. P (f x))
-All-unmap P f (x ∷ xs) h = All-cons (λ y. P (f y)) x xs (All-head P (f x) (map f xs) h) (All-unmap P f xs (All-tail P (f x) (map f xs) h))
+use Rattle.nego_shape.proofs.SoundPlaces.{Keeps, kept_by, stand, party_from, party_stands, party_at, last_is, is_last_at, by_placed, party_below, agent_of}
 
 not_empty : {A B : Type 0} (f : A → B) (xs : List A) → (length xs == 0) ≡ false → map f xs ≢ []
 not_empty f [] h = λ e. false≢true (sym h)
@@ -61,7 +59,7 @@ module _ (p : Parsed) (once : AreNamedOnce (content_of p)) (known : unknown_in p
       go None e below = absurd (none-some _ (sym e ∙ slice_get-get_or p.agents a (record { name = name; size = 0 }) below))
       go (Some agent) e below =
           let none = no_agent_so name.line kind (λ (x : PAgent). not (is_party_at p.atoms name x)) p.agents h in
-          party_at p once name a agent e (not_not (is_party_at p.atoms name agent) (all_slice (λ (x : PAgent). not (is_party_at p.atoms name x) ≡ false) p.agents a agent none e))
+          party_at p once name a agent e (not_not (is_party_at p.atoms name agent) (All-at (λ (x : PAgent). not (is_party_at p.atoms name x) ≡ false) p.agents a agent none e))
 
   -- agents on next lines by number
   pub sent_from : (a : ℕ) (agent : PAgent) → slice_get p.agents a ≡ Some agent → (nexts : List PNext) → list_any (λ next. stands_in next.agents agent.name) nexts ≡ true → IsSent (content_of p) (map next_content nexts) a
@@ -87,7 +85,7 @@ module _ (p : Parsed) (once : AreNamedOnce (content_of p)) (known : unknown_in p
   sends_kept n atom at i d l keeps other a party =
       let out = get_or atom.outs i d in
       let there = agent_there a atom.name (party_below p once n atom a at party) in
-      let none = all_slice (λ (x : PAgent). is_missing atom out x ≡ false) p.agents a there.0 (missing_none atom keeps.number out (false_from (is_last p atom) (λ t. other (last_is p once n atom at t))) keeps.kept) there.1 in
+      let none = All-at (λ (x : PAgent). is_missing atom out x ≡ false) p.agents a there.0 (missing_none atom keeps.number out (false_from_ne_true (is_last p atom) (λ t. other (last_is p once n atom at t))) keeps.kept) there.1 in
       sent_from a there.0 there.1 out.nexts (not_not (list_any (λ (next : PNext). stands_in next.agents there.0.name) out.nexts)
       (not_both (stands_in atom.parties there.0.name) (not (list_any (λ (next : PNext). stands_in next.agents there.0.name) out.nexts)) none (party_stands p once n atom at a there.0 there.1 party)))
 
@@ -106,7 +104,7 @@ module _ (p : Parsed) (once : AreNamedOnce (content_of p)) (known : unknown_in p
       let word = get_or next.agents j w in
       let there = agent_of p once word.text (All-unmap (λ name. IsDeclared (agent_names (content_of p)) name) (λ (x : Word). x.text) next.agents names j w q) in
       let a = place_of word.text (agent_names (content_of p)) in
-      let none = all_slice (λ (x : PAgent). is_stranger p atom next x ≡ false) p.agents a there.agent
+      let none = All-at (λ (x : PAgent). is_stranger p atom next x ≡ false) p.agents a there.agent
       (no_agent_so next.atom.line (λ b. kinds.NextStranger (record { 0 = number }) b (record { 0 = atom_number p.atoms next.atom })) (is_stranger p atom next) p.agents kept) there.at in
       let both = and_parts (stands_in atom.parties there.agent.name) (is_party_at p.atoms next.atom there.agent)
       (not_not (stands_in atom.parties there.agent.name && is_party_at p.atoms next.atom there.agent)
@@ -118,7 +116,7 @@ module _ (p : Parsed) (once : AreNamedOnce (content_of p)) (known : unknown_in p
       All (HasNoStranger (content_of p) n) (out_content (get_or atom.outs i o)).nexts
   strangers_kept n atom at i o l keeps =
       let out = get_or atom.outs i o in
-      let names = ((all_slice (λ (x : PAtom). All (λ name. IsDeclared (agent_names (content_of p)) name) (texts x.parties) × All (IsOutDeclared p) x.outs) p.atoms n atom (outs_declared p known) at).1 i o l).agents in
+      let names = ((All-at (λ (x : PAtom). All (λ name. IsDeclared (agent_names (content_of p)) name) (texts x.parties) × All (IsOutDeclared p) x.outs) p.atoms n atom (outs_declared p known) at).1 i o l).agents in
       All-map (HasNoStranger (content_of p) n) next_content out.nexts (λ k e m. strangers_at n atom at (get_or out.nexts k e)
       (All-unmap (λ (next : NextContent). All (λ name. IsDeclared (agent_names (content_of p)) name) next.agents) next_content out.nexts names k e m) keeps.number
       (among_none (next_stranger_on p atom keeps.number) out.nexts keeps.kept k e m))

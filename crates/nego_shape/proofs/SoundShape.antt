@@ -1,28 +1,28 @@
 -- A text without a fault of shape has the shape of a diagram.
-use Rattle.std.proofs.Common.{◌≡◌, ℕ, ◌+◌, ◌<◌, Bool, true, false, not, nat_lt, List, [], ◌∷◌, length, map, get_or, Some, None, refl, sym, subst, arith}
-use Rattle.std.proofs.lemmas.List.FromFn.{get_or-range_with_len, length-range_with_len}
+use Rattle.std.proofs.Common.{◌≡◌, ℕ, ◌+◌, Bool, true, false, not, List, [], ◌∷◌, length, map, Some, None, refl, arith}
 use Rattle.std.proofs.lemmas.List.Elements.{All-nil, All-cons}
-use Rattle.std.proofs.lemmas.List.Sums.{position_or_len_is}
-use Rattle.std.proofs.lemmas.Bool.{lt-ltb}
-use Rattle.std.proofs.lemmas.Bool.Decides.{nat_tests}
-use Rattle.std.specs.List.{All, list_any, range_with_len}
+use Rattle.std.specs.List.{All, list_any}
+use Rattle.nego_base.proofs.OptionLaws.{or_none, map_none}
+use Rattle.nego_base.proofs.Firsts.{numbered_none}
 use Rattle.nego_data.specs.declared.cases.Case.{Case}
 use Rattle.nego_data.specs.Cases.{covers}
-use Rattle.nego_data.specs.CaseForm.{AllCovered, IsFirstUncovered}
+use Rattle.nego_data.specs.CaseForm.{IsFirstUncovered, first_uncovered}
 use Rattle.nego_data.specs.Data.{data_count, split}
 use Rattle.nego_reader.specs.declared.parsed.Parsed.{Parsed}
 use Rattle.nego_reader.specs.declared.parsed.PAtom.{PAtom}
 use Rattle.nego_reader.specs.declared.parsed.POut.{POut}
 use Rattle.nego_reader.specs.Content.{content_of, atom_content, out_content}
+use Rattle.nego_data.proofs.Uncovered.{none-uncovered}
+use Rattle.nego_base.proofs.Firsts.{first_in_range}
+use Rattle.nego_base.proofs.BoolLaws.{not_true}
 use Rattle.nego_shape.specs.declared.checks.outcomes.Rule.TheVariants as rules
 use Rattle.nego_shape.specs.declared.fault.ShapeKind.TheVariants as kinds
 use Rattle.nego_shape.specs.Naming.{sizes_in, all_outs, cases_in}
 use Rattle.nego_shape.specs.Conditions.{IsFormed, HasShape}
 use Rattle.nego_shape.proofs.ConditionLaws.{form_shape}
 use Rattle.nego_shape.specs.Shaped.{IsAllCovered}
-use Rattle.nego_shape.specs.Faults.{fault_on, no_agent, too_many, twice, twice_in, unknown, unknown_in, no_party, no_outcome, lacks, party_fault, next_fault, broken, zero_size, size_too_large, joint_too_large, size_fault, inner_fault, form_fault, first_uncovered, not_total_at, not_total_among, not_total_from, not_total, shape_fault}
+use Rattle.nego_shape.specs.Faults.{fault_on, no_agent, too_many, twice, twice_in, unknown, unknown_in, no_party, no_outcome, lacks, party_fault, next_fault, broken, zero_size, size_too_large, joint_too_large, size_fault, inner_fault, form_fault, not_total_at, not_total_among, not_total_from, not_total, shape_fault}
 use Rattle.nego_shape.proofs.Outs.{All-outs}
-use Rattle.nego_shape.proofs.Misses.{or_none, map_none, not_not, numbered_none, position_none}
 use Rattle.nego_shape.proofs.SoundNames.{some_agent, not_many, named_once}
 use Rattle.nego_shape.proofs.SoundDeclared.{all_declared, by_out}
 use Rattle.nego_shape.proofs.SoundRules.{some_party, some_outcome, all_at, all_sent, no_stranger, last_ends}
@@ -68,17 +68,9 @@ shaped_form p h =
       below = below p once known eight.1;
     }
 
--- no joint data that isn't covered
-all_covered : (sizes : List ℕ) (cases : List Case) → first_uncovered sizes cases ≡ None → AllCovered sizes cases
-all_covered sizes cases h d l =
-    let at_place = get_or-range_with_len 0 (data_count sizes) d 0 l in
-    let is : get_or (range_with_len 0 (data_count sizes)) d 0 ≡ d = omega (arith, at_place) in
-    let none = position_none (λ e. not (list_any (λ case. covers case (split sizes e)) cases)) (range_with_len 0 (data_count sizes)) h d 0 (subst (λ n. d < n) (sym (length-range_with_len 0 (data_count sizes))) l) in
-    not_not (list_any (λ case. covers case (split sizes d)) cases) (subst (λ e. not (list_any (λ case. covers case (split sizes e)) cases) ≡ false) is none)
-
 pub covered_out : (p : Parsed) (o : ℕ) (out : POut) → not_total_at p o out ≡ None → IsAllCovered (content_of p) (out_content out)
 covered_out p o out h =
-    all_covered (sizes_in (content_of p)) (cases_in (content_of p) (out_content out))
+    none-uncovered (sizes_in (content_of p)) (cases_in (content_of p) (out_content out))
     (map_none (λ d. fault_on out.name.line (kinds.NotTotal (record { 0 = o }) d)) (first_uncovered (sizes_in (content_of p)) (cases_in (content_of p) (out_content out))) h)
 
 total_from : (p : Parsed) (o : ℕ) (atoms : List PAtom) → not_total_from p o atoms ≡ None → All (λ (atom : PAtom). All (λ (out : POut). IsAllCovered (content_of p) (out_content out)) atom.outs) atoms
@@ -98,32 +90,13 @@ total p h = All-outs (IsAllCovered (content_of p)) 0 (map atom_content p.atoms) 
 -- the least joint data that is not covered, where there is one
 pub first_is : (sizes : List ℕ) (cases : List Case) (d : ℕ) → IsFirstUncovered sizes cases d → first_uncovered sizes cases ≡ Some d
 first_is sizes cases d h =
-    let count = length-range_with_len 0 (data_count sizes) in
-    let at : (k : ℕ) → k < data_count sizes → get_or (range_with_len 0 (data_count sizes)) k 0 ≡ k =
-    λ k l. (let e = get_or-range_with_len 0 (data_count sizes) k 0 l in omega (arith, e)) in
-    let below = h.below in
-    let place = position_or_len_is (λ e. not (list_any (λ case. covers case (split sizes e)) cases)) (range_with_len 0 (data_count sizes)) d 0 (omega (arith, count, below))
-    (λ k l. rw (at k (omega (arith, l, below)), h.least k l) refl)
-    (λ l. rw (at d below) (not_from (list_any (λ case. covers case (split sizes d)) cases) h.uncovered)) in
-    rw (place, count, lt-ltb d (data_count sizes) below) refl
+    first_in_range (λ e. not (list_any (λ case. covers case (split sizes e)) cases)) 0 (data_count sizes) d (omega arith) (omega (arith, h.below))
+    (λ e low l. not_true (list_any (λ case. covers case (split sizes e)) cases) (h.least e l))
+    (not_from (list_any (λ case. covers case (split sizes d)) cases) h.uncovered)
   where
     not_from : (b : Bool) → (b ≡ true → ⊥) → not b ≡ true
     not_from false k = refl
     not_from true k = absurd (k refl)
-
--- none, where all joint data are covered
-pub first_is_none : (sizes : List ℕ) (cases : List Case) → AllCovered sizes cases → first_uncovered sizes cases ≡ None
-first_is_none sizes cases h =
-    let count = length-range_with_len 0 (data_count sizes) in
-    let place = position_or_len_is (λ e. not (list_any (λ case. covers case (split sizes e)) cases)) (range_with_len 0 (data_count sizes)) (data_count sizes) 0 (omega (arith, count))
-    (λ k l. rw (at k l, h k l) refl) (λ l. absurd (omega (arith, count, l))) in
-    rw (place, count, not_below (data_count sizes)) refl
-  where
-    at : (k : ℕ) → k < data_count sizes → get_or (range_with_len 0 (data_count sizes)) k 0 ≡ k
-    at k l = let e = get_or-range_with_len 0 (data_count sizes) k 0 l in omega (arith, e)
-
-    not_below : (n : ℕ) → nat_lt n n ≡ false
-    not_below n = grind (arith, nat_tests)
 
 -- no fault of shape gives the shape
 pub sound_shape : (p : Parsed) → shape_fault p ≡ None → HasShape (content_of p)

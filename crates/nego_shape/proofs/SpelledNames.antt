@@ -12,10 +12,10 @@ use Rattle.nego_reader.specs.declared.parsed.PAtom.{PAtom}
 use Rattle.nego_reader.specs.declared.parsed.POut.{POut}
 use Rattle.nego_reader.specs.Rows.{Row, HeaderRow, AgentRow, AtomRow, OutRow, CaseRow, NextRow, FirstRow, LastRow, EndRow, out_rows, atom_rows, rows_of}
 use Rattle.nego_base.specs.LineGrammar.{IsNameWord}
+use Rattle.nego_base.proofs.ListLaws.{All-front, All-back, All-each}
 use Rattle.nego_reader.specs.Spelling.{Each, SpellsLine, Spells}
 use Rattle.nego_reader.specs.Content.{AgentContent, AtomContent, OutContent, agent_content, atom_content, out_content, content_of}
 use Rattle.nego_shape.specs.Shaped.{HasNameWords}
-use Rattle.nego_shape.proofs.ShapedCases.{All-front, All-back, All-each}
 
 -- the name that a line gives is a name
 abbrev IsNamedRow : Row → Type 0

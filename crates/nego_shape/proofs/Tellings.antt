@@ -1,112 +1,25 @@
 -- What a search that finds something tells of what it found.
-use Rattle.std.proofs.Common.{◌≡◌, ◌⊎◌, ⊎_elim, inl, inr, ℕ, zero, suc, ◌+◌, ◌<◌, ◌≤◌, Bool, true, false, not, cond, List, [], ◌∷◌, ◌++◌, length, map, take, get_or, Option, Some, None, slice_get, refl, sym, subst, ap, ◌∙◌, arith}
-use Rattle.std.proofs.lemmas.Bool.{false≢true}
-use Rattle.std.proofs.lemmas.Option.{same_Some, none-some, slice_get-map, slice_get-get_or, get_or_from_slice_get, slice_get_within}
+use Rattle.std.proofs.Common.{◌≡◌, ⊎_elim, ℕ, suc, ◌+◌, ◌<◌, ◌≤◌, Bool, true, false, List, [], ◌∷◌, ◌++◌, length, map, take, get_or, Option, Some, None, slice_get, refl, sym, subst, ap, ◌∙◌, arith}
+use Rattle.std.proofs.lemmas.Option.{none-some, slice_get-map, slice_get_within}
 use Rattle.std.proofs.Math.Seq.{take-append-add}
 use Rattle.std.proofs.lemmas.List.{length-map, take-append-le, take_all, get_or-take, length-take}
 use Rattle.std.proofs.lemmas.List.Elements.{All-map, All-append}
-use Rattle.std.proofs.lemmas.List.Quantifiers.{position-Some}
 use Rattle.std.specs.List.{position, flat_map, All, take-map}
 use Rattle.std.specs.Option.{option_or, option_map}
 use Rattle.nego_base.specs.declared.ids.AgentId.{AgentId}
+use Rattle.nego_base.specs.Firsts.{first_numbered}
+use Rattle.nego_base.proofs.OptionLaws.{or_some, map_some}
+use Rattle.nego_base.proofs.Firsts.{Found, numbered_none, numbered_some, first_some}
+use Rattle.nego_base.proofs.ListLaws.{at_front, at_length}
 use Rattle.nego_reader.specs.declared.parsed.PAgent.{PAgent}
 use Rattle.nego_reader.specs.declared.parsed.PAtom.{PAtom}
 use Rattle.nego_reader.specs.declared.parsed.POut.{POut}
 use Rattle.nego_reader.specs.Content.{OutContent, atom_content, out_content}
 use Rattle.nego_shape.specs.declared.fault.ShapeFault.{ShapeFault}
 use Rattle.nego_shape.specs.declared.fault.ShapeKind.{ShapeKind}
-use Rattle.nego_shape.specs.Firsts.{first_among, first_numbered}
 use Rattle.nego_shape.specs.Naming.{PlacedOut, outs_from}
 use Rattle.nego_shape.specs.Made.{placed_at}
 use Rattle.nego_shape.specs.Faults.{fault_on, agent_fault}
-use Rattle.nego_shape.proofs.Misses.{numbered_at}
-use Rattle.nego_shape.proofs.FaultlessSearches.{both_none}
-
--- a test whose opposite holds fails
-pub not_so : (t : Bool) → not t ≡ true → t ≡ true → ⊥
-not_so true h e = false≢true h
-not_so false h e = false≢true e
-
--- which of two gives
-pub or_some : {A : Type 0} (o rest : Option A) (x : A) → option_or o rest ≡ Some x → (o ≡ Some x) ⊎ ((o ≡ None) × (rest ≡ Some x))
-or_some None rest x h = inr (refl, h)
-or_some (Some y) rest x h = inl h
-
-pub map_some : {A B : Type 0} (f : A → B) (o : Option A) (y : B) → option_map f o ≡ Some y → (x : A) × (o ≡ Some x) × (f x ≡ y)
-map_some f None y h = absurd (none-some y h)
-map_some f (Some x) y h = (x, refl, same_Some (f x) y h)
-
-pub if_some : {A : Type 0} (t : Bool) (x y : A) → cond t (Some x) None ≡ Some y → (t ≡ true) × (x ≡ y)
-if_some true x y h = (refl, same_Some x y h)
-if_some false x y h = absurd (none-some y h)
-
--- the first item of which something is given, where items are numbered from n on
-record FoundFrom {A B : Type 0} (f : ℕ → A → Option B) (n : ℕ) (xs : List A) (y : B) : Type 0 where
-  pub place : ℕ
-  pub item : A
-  pub at : slice_get xs place ≡ Some item
-  pub gives : f (n + place) item ≡ Some y
-  pub before : first_numbered f n (take place xs) ≡ None
-
-numbered_from : {A B : Type 0} (f : ℕ → A → Option B) (n : ℕ) (xs : List A) (y : B) → first_numbered f n xs ≡ Some y → FoundFrom f n xs y
-unfolding first_numbered
-numbered_from f n [] y h = absurd (none-some y h)
-numbered_from f n (x ∷ xs) y h =
-    let here : n ≡ n + 0 = omega arith in
-    ⊎_elim
-    (λ e. record { place = 0; item = x; at = refl; gives = subst (λ m. f m x ≡ Some y) here e; before = refl })
-    (λ e.
-    let r = numbered_from f (n + 1) xs y e.1 in
-    let there : n + 1 + r.place ≡ n + suc r.place = omega arith in
-    record {
-      place = suc r.place;
-      item = r.item;
-      at = r.at;
-      gives = subst (λ m. f m r.item ≡ Some y) there r.gives;
-      before = both_none (f n x) (first_numbered f (n + 1) (take r.place xs)) e.0 r.before;
-    })
-    (or_some (f n x) (first_numbered f (n + 1) xs) y h)
-
--- the same, where they are numbered from 0 on
-pub record Found {A B : Type 0} (f : ℕ → A → Option B) (xs : List A) (y : B) : Type 0 where
-  pub place : ℕ
-  pub item : A
-  pub at : slice_get xs place ≡ Some item
-  pub gives : f place item ≡ Some y
-  pub before : first_numbered f 0 (take place xs) ≡ None
-
-pub numbered_some : {A B : Type 0} (f : ℕ → A → Option B) (xs : List A) (y : B) → first_numbered f 0 xs ≡ Some y → Found f xs y
-numbered_some f xs y h =
-    let r = numbered_from f 0 xs y h in
-    let here : 0 + r.place ≡ r.place = omega arith in
-    record { place = r.place; item = r.item; at = r.at; gives = subst (λ m. f m r.item ≡ Some y) here r.gives; before = r.before }
-
--- numbers may be left out
-among_numbered : {A B : Type 0} (f : A → Option B) (n : ℕ) (xs : List A) → first_numbered (λ i x. f x) n xs ≡ first_among f xs
-unfolding first_among first_numbered
-among_numbered f n [] = refl
-among_numbered f n (x ∷ xs) = ap (option_or (f x)) (among_numbered f (n + 1) xs)
-
-pub among_some : {A B : Type 0} (f : A → Option B) (xs : List A) (y : B) → first_among f xs ≡ Some y → Found (λ i x. f x) xs y
-among_some f xs y h = numbered_some (λ i x. f x) xs y (among_numbered f 0 xs ∙ h)
-
--- the item at the first place that passes
-pub record Passing {A : Type 0} (test : A → Bool) (xs : List A) (i : ℕ) : Type 0 where
-  pub item : A
-  pub at : slice_get xs i ≡ Some item
-  pub passes : test item ≡ true
-  pub before : (k : ℕ) (other : A) → slice_get xs k ≡ Some other → k < i → test other ≡ false
-
-pub first_some : {A : Type 0} (test : A → Bool) (xs : List A) (i : ℕ) → position test xs ≡ Some i → Passing test xs i
-first_some test [] i h = absurd (none-some i h)
-first_some test (x ∷ xs) i h =
-    let r = position-Some test (x ∷ xs) i x h in
-    record {
-      item = get_or (x ∷ xs) i x;
-      at = slice_get-get_or (x ∷ xs) i x r.0;
-      passes = r.1;
-      before = λ k other at l. subst (λ z. test z ≡ false) (get_or_from_slice_get (x ∷ xs) k other x at) (r.2 k l);
-    }
 
 -- the agent whose fault is told
 pub record AgentTold (line : ℕ) (kind : AgentId → ShapeKind) (test : PAgent → Bool) (agents : List PAgent) (y : ShapeFault) : Type 0 where
@@ -122,18 +35,6 @@ agent_some line kind test agents y h =
     let a = map_some (λ n. fault_on line (kind (record { 0 = n }))) (position test agents) y h in
     let r = first_some test agents a.0 a.1 in
     record { number = a.0; is = a.2; agent = r.item; at = r.at; passes = r.passes; before = r.before }
-
--- an item of the first of two lists, and one of the second
-front_at : {A : Type 0} (xs ys : List A) (i : ℕ) (x : A) → slice_get xs i ≡ Some x → slice_get (xs ++ ys) i ≡ Some x
-front_at [] ys i x h = absurd (none-some x h)
-front_at (z ∷ xs) ys zero x h = h
-front_at (z ∷ xs) ys (suc i) x h = front_at xs ys i x h
-
-back_at : {A : Type 0} (xs ys : List A) (i : ℕ) → slice_get (xs ++ ys) (length xs + i) ≡ slice_get ys i
-back_at [] ys i = let none : 0 + i ≡ i = omega arith in ap (slice_get ys) none
-back_at (z ∷ xs) ys i =
-    let more : length (z ∷ xs) + i ≡ suc (length xs + i) = omega arith in
-    ap (slice_get (z ∷ (xs ++ ys))) more ∙ back_at xs ys i
 
 -- the number and the content of an outcome have this
 abbrev pub Has : (ℕ → OutContent → Type 0) → PlacedOut → Type 0
@@ -186,8 +87,10 @@ module _ (give : PAtom → ℕ → POut → Option ShapeFault) (P : ℕ → OutC
       let inside : i < length x.outs = let long = length-take k x.outs in omega (arith, l, long) in
       let low : i < k = let long = length-take k x.outs in omega (arith, l, long) in
       let is : get_or (take k x.outs) i d ≡ get_or x.outs i d = get_or-take k x.outs i d low in
-      let given : give x (o + (0 + i)) (get_or x.outs i d) ≡ None = subst (λ (out : POut). give x (o + (0 + i)) out ≡ None) is (numbered_at (λ j out. give x (o + j) out) 0 (take k x.outs) none i d l) in
-      subst (λ (out : POut). P n (out_content out)) (sym is) (subst (λ m. P m (out_content (get_or x.outs i d))) same (clean 0 x refl i d inside (o + (0 + i)) given))))
+      let given : (number : ℕ) × (give x number (get_or x.outs i d) ≡ None) =
+      subst (λ (out : POut). (number : ℕ) × (give x number out ≡ None)) is
+      (numbered_none (λ j out. give x (o + j) out) (λ (out : POut). (number : ℕ) × (give x number out ≡ None)) (λ j out e. (o + j, e)) 0 (take k x.outs) none i d l) in
+      subst (λ (out : POut). P n (out_content out)) (sym is) (subst (λ m. P m (out_content (get_or x.outs i d))) same (clean 0 x refl i d inside given.0 given.1))))
 
   clean_behind : (n : ℕ) (x : PAtom) (atoms : List PAtom) → Clean give P n (x ∷ atoms) → Clean give P (n + 1) atoms
   clean_behind n x atoms clean m atom at i d l j h = let more : n + suc m ≡ n + 1 + m = omega arith in subst (λ k. P k (out_content (get_or atom.outs i d))) more (clean (suc m) atom at i d l j h)
@@ -211,8 +114,8 @@ module _ (give : PAtom → ℕ → POut → Option ShapeFault) (P : ℕ → OutC
         at = refl;
         number = r.place;
         out = r.item;
-        there = front_at mapped rest r.place (placed_at (n + 0) (out_content r.item)) own;
-        in_text = front_at x.outs (flat_map (λ (z : PAtom). z.outs) atoms) r.place r.item r.at;
+        there = at_front mapped rest r.place (placed_at (n + 0) (out_content r.item)) own;
+        in_text = at_front x.outs (flat_map (λ (z : PAtom). z.outs) atoms) r.place r.item r.at;
         gives = r.gives;
         before = subst (All (Has P)) (sym front) (clean_own n o r.place x atoms clean r.before);
       }
@@ -237,10 +140,10 @@ module _ (give : PAtom → ℕ → POut → Option ShapeFault) (P : ℕ → OutC
         number = length x.outs + r.number;
         out = r.out;
         there = ap (λ m. slice_get (outs_from n (map atom_content (x ∷ atoms))) (m + r.number)) (sym long)
-            ∙ back_at own rest r.number
+            ∙ at_length own rest r.number
             ∙ r.there
             ∙ ap (λ m. Some (placed_at m (out_content r.out))) next;
-        in_text = back_at x.outs (flat_map (λ (z : PAtom). z.outs) atoms) r.number ∙ r.in_text;
+        in_text = at_length x.outs (flat_map (λ (z : PAtom). z.outs) atoms) r.number ∙ r.in_text;
         gives = subst (λ m. give r.atom m r.out ≡ Some y) same r.gives;
         before = subst (All (Has P)) cut (All-append (Has P) own (take r.number rest) here r.before);
       }

@@ -1,24 +1,23 @@
 -- What a told fault of shape says of the text's content.
 use Rattle.std.proofs.Common.{◌≡◌, ◌≢◌, ℕ, ◌+◌, ◌*◌, ◌<◌, ◌≤◌, ◌==◌, Bool, true, false, not, ◌&&◌, nat_lt, cond, List, [], ◌∷◌, ◌++◌, length, map, take, get_or, Option, Some, None, slice_get, slice_index, suc, refl, sym, subst, ap, ◌∙◌, arith, eqb-true, eq-eqb, leb-true, lit<}
 use Rattle.std.proofs.lemmas.Bool.{false≢true, and_parts, and_from, ltb-false}
-use Rattle.std.proofs.lemmas.Option.{same_Some, none-some, slice_get-get_or, slice_get-map}
+use Rattle.std.proofs.lemmas.Option.{same_Some, none-some, slice_get-get_or, slice_get-map, slice_get_within}
 use Rattle.std.proofs.lemmas.List.{length-map, length-take, get_or-map, get_or-take, map-append}
-use Rattle.std.proofs.lemmas.List.FromFn.{get_or-range_with_len, length-range_with_len}
-use Rattle.std.proofs.lemmas.List.Quantifiers.{position-Some}
-use Rattle.std.specs.List.{All, list_any, range_with_len, position, position_or_len, take-map, flat_map}
+use Rattle.std.specs.List.{All, list_any, position, position_or_len, take-map, flat_map}
 use Rattle.std.specs.Option.{option_or, option_map, unwrap_or}
 use Rattle.std.specs.Str.{bytes_eq}
 use Rattle.nego_base.specs.declared.line.Word.{Word}
 use Rattle.nego_base.specs.declared.ids.AgentId.{AgentId}
 use Rattle.nego_base.specs.Members.{is_in}
-use Rattle.nego_data.specs.declared.cases.Case.{Case}
+use Rattle.nego_base.proofs.ListLaws.{mapped_at, All-at, All-unmap}
+use Rattle.nego_base.specs.Firsts.{first_numbered}
+use Rattle.nego_base.proofs.BoolLaws.{not_not, not_both, any_from_place}
+use Rattle.nego_base.proofs.OptionLaws.{map_some, if_some}
+use Rattle.nego_base.proofs.Firsts.{numbered_some, among_some, numbered_none}
 use Rattle.nego_data.specs.declared.joint_data.SizeFault.{SizeFault}
 use Rattle.nego_data.specs.declared.joint_data.SizeFault.TheVariants as faults
-use Rattle.nego_data.specs.Cases.{covers}
-use Rattle.nego_data.specs.CaseForm.{AssignsBelow, FitsSize, IsFirstUncovered}
-use Rattle.nego_data.specs.Data.{data_count, split}
+use Rattle.nego_data.specs.CaseForm.{AssignsBelow, FitsSize, first_uncovered}
 use Rattle.nego_data.specs.Sizes.{HasFault}
-use Rattle.nego_model.proofs.diagrams.Readers.{mapped_at}
 use Rattle.nego_reader.specs.declared.parsed.Parsed.{Parsed}
 use Rattle.nego_reader.specs.declared.parsed.PAgent.{PAgent}
 use Rattle.nego_reader.specs.declared.parsed.PAtom.{PAtom}
@@ -35,30 +34,29 @@ use Rattle.nego_shape.specs.declared.fault.ShapeFault.{ShapeFault}
 use Rattle.nego_shape.specs.declared.fault.ShapeKind.{ShapeKind}
 use Rattle.nego_shape.specs.declared.fault.ShapeKind.TheVariants as kinds
 use Rattle.nego_shape.proofs.ConditionLaws.{rank_of}
-use Rattle.nego_shape.specs.Firsts.{first_numbered}
 use Rattle.nego_shape.specs.Laws.{kind_of}
 use Rattle.nego_shape.specs.Made.{placed_at}
 use Rattle.nego_shape.specs.Told.{IsSo, HasSome, IsOn, is_named}
 use Rattle.nego_shape.specs.Naming.{PlacedOut, place_of, places_of, agent_names, atom_names, sizes_in, all_outs, case_in, cases_in, set_in, term_in, leads_to}
 use Rattle.nego_shape.specs.Shaped.{AreNamedOnce, AreAllDeclared, IsDeclared, IsParty, SendsAll, HasNoStranger, EndsLast, NamesParties, IsAllCovered, last_number}
 use Rattle.nego_shape.specs.Shaped as shaped
-use Rattle.nego_shape.specs.Faults.{fault_on, same, stands_in, is_party_at, out_names, no_agent, twice_in, unknown_in, no_party, no_party_at, no_outcome, no_outcome_at, lacks, agent_fault, is_last, is_missing, is_stranger, next_stranger_on, atom_number, case_line, case_names, is_outside, not_party_on, is_overfull, is_too_large, value_too_large_on, broken_at, zero_size, zero_size_at, size_too_large, size_too_large_at, joint_from, joint_too_large, size_fault, first_uncovered, not_total, shape_fault}
+use Rattle.nego_shape.specs.Faults.{fault_on, same, stands_in, is_party_at, out_names, no_agent, twice_in, unknown_in, no_party, no_party_at, no_outcome, no_outcome_at, lacks, agent_fault, is_last, is_missing, is_stranger, next_stranger_on, atom_number, case_line, case_names, is_outside, not_party_on, is_overfull, is_too_large, value_too_large_on, broken_at, zero_size, zero_size_at, size_too_large, size_too_large_at, joint_from, joint_too_large, size_fault, not_total, shape_fault}
 use Rattle.nego_shape.proofs.FirstLaws.{or_found, or_missed}
 use Rattle.nego_shape.proofs.ListPlaces.{is_in_at}
-use Rattle.nego_shape.proofs.Misses.{not_not, not_both, numbered_at}
+use Rattle.nego_base.proofs.BoolLaws.{not_so}
+use Rattle.nego_data.proofs.Uncovered.{first-uncovered}
 use Rattle.nego_shape.proofs.PartsMade.{sizes_read}
 use Rattle.nego_shape.proofs.Sought.{position_or_len-map, position_or_len-within}
 use Rattle.nego_shape.proofs.SoundCases.{size_there, parties_at, parties_kept, below_at, below_kept}
 use Rattle.nego_shape.proofs.SoundShape.{covered_out}
-use Rattle.nego_shape.proofs.SoundPlaces.{some_below, all_slice, any_at, agent_at, place_is, stand, party_from, party_stands, party_at, last_is, is_last_at}
-use Rattle.nego_shape.proofs.SoundRules.{All-unmap, some_party, some_outcome, sent_from, sends_kept, strangers_at, strangers_kept, ends_kept}
-use Rattle.nego_shape.proofs.FaultlessSearches.{any_passes}
+use Rattle.nego_shape.proofs.SoundPlaces.{any_at, agent_at, place_is, stand, party_from, party_stands, party_at, last_is, is_last_at}
+use Rattle.nego_shape.proofs.SoundRules.{some_party, some_outcome, sent_from, sends_kept, strangers_at, strangers_kept, ends_kept}
 use Rattle.nego_shape.proofs.FaultlessPlaces.{agent_place, party_named, sent_named}
 use Rattle.nego_shape.proofs.FaultlessCases.{case_has}
 use Rattle.nego_shape.proofs.FaultlessSizes.{size_faults}
 use Rattle.nego_shape.proofs.ToldTwice.{told_twice}
 use Rattle.nego_shape.proofs.ToldUnknown.{told_unknown}
-use Rattle.nego_shape.proofs.Tellings.{not_so, map_some, if_some, numbered_some, among_some, agent_some, OutFound}
+use Rattle.nego_shape.proofs.Tellings.{agent_some, OutFound}
 use Rattle.nego_shape.proofs.KindRanks.{check, breach, partial, all_made}
 use Rattle.nego_shape.specs.declared.fault.ShapeAnswer.{ShapeAnswer}
 use Rattle.nego_shape.specs.declared.fault.ShapeAnswer.TheVariants as answers
@@ -81,24 +79,6 @@ place_or test xs = go (nat_lt (position_or_len test xs) (length xs)) refl
     go : (b : Bool) → nat_lt (position_or_len test xs) (length xs) ≡ b → unwrap_or (cond b (Some (position_or_len test xs)) None) (length xs) ≡ position_or_len test xs
     go true q = refl
     go false q = let past : length xs ≤ position_or_len test xs = ltb-false (position_or_len test xs) (length xs) q in let within = position_or_len-within test xs in omega (arith, past, within)
-
--- the joint data that are told are the least that no case covers
-first_is : (sizes : List ℕ) (cases : List Case) (d : ℕ) → first_uncovered sizes cases ≡ Some d → IsFirstUncovered sizes cases d
-first_is sizes cases d h =
-    let range = range_with_len 0 (data_count sizes) in
-    let r = position-Some (λ e. not (list_any (λ case. covers case (split sizes e)) cases)) range d 0 h in
-    let below : d < data_count sizes = subst (λ n. d < n) (length-range_with_len 0 (data_count sizes)) r.0 in
-    let at : (k : ℕ) → k < data_count sizes → get_or range k 0 ≡ k = λ k l. (let e = get_or-range_with_len 0 (data_count sizes) k 0 l in omega (arith, e)) in
-    record {
-      below = below;
-      uncovered = λ covered. not_so (list_any (λ case. covers case (split sizes d)) cases) (subst (λ e. not (list_any (λ case. covers case (split sizes e)) cases) ≡ true) (at d below) r.1) covered;
-      least = λ e l. so (list_any (λ case. covers case (split sizes e)) cases)
-          (subst (λ n. not (list_any (λ case. covers case (split sizes n)) cases) ≡ false) (at e (omega (arith, l, below))) (r.2 e l));
-    }
-  where
-    so : (t : Bool) → not t ≡ false → t ≡ true
-    so true q = refl
-    so false q = absurd (false≢true (sym q))
 
 -- the fault that is told of a product, with the agent at whose place it stands
 abbrev JointTold : ℕ → List PAgent → ShapeFault → Type 0
@@ -136,7 +116,7 @@ sound_before : {A : Type 0} (f : A → Option ShapeFault) (P : A → Type 0) (xs
 sound_before f P xs k each none j d l =
     let long = length-take k xs in
     let is : get_or (take k xs) j d ≡ get_or xs j d = get_or-take k xs j d (omega (arith, l, long)) in
-    subst P (sym is) (each j d (omega (arith, l, long)) (subst (λ x. f x ≡ None) is (numbered_at (λ i x. f x) 0 (take k xs) none j d l)))
+    subst P (sym is) (each j d (omega (arith, l, long)) (subst (λ x. f x ≡ None) is (numbered_none (λ i x. f x) (λ x. f x ≡ None) (λ n x e. e) 0 (take k xs) none j d l)))
 
 module _ (p : Parsed) where
   -- what a fault says
@@ -215,7 +195,7 @@ module _ (p : Parsed) where
       let r = partial (λ n out. IsAllCovered (content_of p) out) p x (λ m atom at i d l j e. covered_out p j (get_or atom.outs i d) e) h in
       let cases = cases_in (content_of p) (out_content r.out) in
       let two = map_some (λ d. fault_on r.out.name.line (kinds.NotTotal (record { 0 = r.number }) d)) (first_uncovered (sizes_in (content_of p)) cases) x r.gives in
-      subst Tells two.2 (record { item = placed_at r.place (out_content r.out); at = r.there; so = first_is (sizes_in (content_of p)) cases two.0 two.1; before = r.before }, (r.out, r.in_text, refl))
+      subst Tells two.2 (record { item = placed_at r.place (out_content r.out); at = r.there; so = first-uncovered (sizes_in (content_of p)) cases two.0 two.1; before = r.before }, (r.out, r.in_text, refl))
 
   -- an atom's number is its name's place
   number_is : (name : Word) → atom_number p.atoms name ≡ place_of name.text (atom_names (content_of p))
@@ -230,10 +210,10 @@ module _ (p : Parsed) where
         ((b : ℕ) → b < a → IsParty (content_of p) (place_of name.text (atom_names (content_of p))) b) × (fault_on name.line (kind (record { 0 = a })) ≡ x)
     lacks_tells kind name x known h =
         let r = agent_some name.line kind (λ (agent : PAgent). not (is_party_at p.atoms name agent)) p.agents x h in
-        let inside = some_below p.agents r.number r.agent r.at in (
+        let inside = slice_get_within p.agents r.number r.agent r.at in (
           r.number,
           subst (λ n. r.number < n) (sym (length-map p.agents agent_content)) inside,
-          λ party. not_so (is_party_at p.atoms name r.agent) r.passes (party_named p once name r.number r.agent r.at known party),
+          λ party. false≢true (sym (not_so (is_party_at p.atoms name r.agent) r.passes) ∙ party_named p once name r.number r.agent r.at known party),
           λ b l.
               let other = get_or p.agents b r.agent in
               let there = slice_get-get_or p.agents b r.agent (omega (arith, l, inside)) in
@@ -252,7 +232,7 @@ module _ (p : Parsed) where
         All (λ name. IsDeclared (agent_names (content_of p)) name) (shaped.case_names (case_content (get_or out.cases j e)))
     cases_known o n out there j e l =
         All-unmap (λ (x : CaseContent). All (λ name. IsDeclared (agent_names (content_of p)) name) (shaped.case_names x)) case_content out.cases
-        (all_slice (λ (placed : PlacedOut). All (λ (x : CaseContent). All (λ name. IsDeclared (agent_names (content_of p)) name) (shaped.case_names x)) placed.out.cases) (all_outs (content_of p)) o (placed_at n (out_content out)) declared.cases there) j e l
+        (All-at (λ (placed : PlacedOut). All (λ (x : CaseContent). All (λ name. IsDeclared (agent_names (content_of p)) name) (shaped.case_names x)) placed.out.cases) (all_outs (content_of p)) o (placed_at n (out_content out)) declared.cases there) j e l
 
     -- an agent of a name in a case is one of those that the case names
     named_in : (a : ℕ) (agent : PAgent) → slice_get p.agents a ≡ Some agent → (case : PCase) → case_names agent.name case ≡ true → is_named (content_of p) a (case_content case) ≡ true
@@ -281,9 +261,9 @@ module _ (p : Parsed) where
                   item = placed_at r.place (out_content r.out);
                   at = r.there;
                   so = (
-                    (other, party_from p once r.place r.atom r.at s.number s.agent s.at two.0, λ h. not_so sent two.1 (sent_named p once s.number s.agent s.at r.out.nexts h)),
+                    (other, party_from p once r.place r.atom r.at s.number s.agent s.at two.0, λ h. false≢true (sym (not_so sent two.1) ∙ sent_named p once s.number s.agent s.at r.out.nexts h)),
                     λ b l miss.
-                        let there = slice_get-get_or p.agents b s.agent (let inside = some_below p.agents s.number s.agent s.at in omega (arith, l, inside)) in
+                        let there = slice_get-get_or p.agents b s.agent (let inside = slice_get_within p.agents s.number s.agent s.at in omega (arith, l, inside)) in
                         let agent = get_or p.agents b s.agent in
                         miss.2 (sent_from p once known b agent there r.out.nexts (not_not (list_any (λ (next : PNext). stands_in next.agents agent.name) r.out.nexts)
                         (not_both (stands_in r.atom.parties agent.name) (not (list_any (λ (next : PNext). stands_in next.agents agent.name) r.out.nexts)) (s.before b agent there l) (party_stands p once r.place r.atom r.at b agent there miss.1)))),
@@ -302,14 +282,14 @@ module _ (p : Parsed) where
           let s = agent_some name.line (λ a. kinds.NextStranger (record { 0 = r.number }) a (record { 0 = n })) (is_stranger p r.atom next.item) p.agents x next.gives in
           let parties = stands_in r.atom.parties s.agent.name && is_party_at p.atoms name s.agent in
           let two = and_parts (stands_in next.item.agents s.agent.name) (not parties) s.passes in
-          let declared_atom = all_slice (λ (m : PNext). IsDeclared (atom_names c) m.atom.text) r.out.nexts next.place next.item
+          let declared_atom = All-at (λ (m : PNext). IsDeclared (atom_names c) m.atom.text) r.out.nexts next.place next.item
           (All-unmap (λ (m : NextContent). IsDeclared (atom_names c) m.atom) next_content r.out.nexts
-          (all_slice (λ (placed : PlacedOut). All (λ (m : NextContent). IsDeclared (atom_names c) m.atom) placed.out.nexts) (all_outs c) r.number (placed_at r.place (out_content r.out)) declared.next_atoms r.there))
+          (All-at (λ (placed : PlacedOut). All (λ (m : NextContent). IsDeclared (atom_names c) m.atom) placed.out.nexts) (all_outs c) r.number (placed_at r.place (out_content r.out)) declared.next_atoms r.there))
           next.at in
           let no_strangers = sound_before (next_stranger_on p r.atom r.number) (λ m. HasNoStranger c r.place (next_content m)) r.out.nexts next.place
           (λ j e l none. strangers_at p once known r.place r.atom r.at (get_or r.out.nexts j e)
           (All-unmap (λ (m : NextContent). All (λ name. IsDeclared (agent_names c) name) m.agents) next_content r.out.nexts
-          (all_slice (λ (placed : PlacedOut). All (λ (m : NextContent). All (λ name. IsDeclared (agent_names c) name) m.agents) placed.out.nexts) (all_outs c) r.number (placed_at r.place (out_content r.out)) declared.next_agents r.there) j e l) r.number none)
+          (All-at (λ (placed : PlacedOut). All (λ (m : NextContent). All (λ name. IsDeclared (agent_names c) name) m.agents) placed.out.nexts) (all_outs c) r.number (placed_at r.place (out_content r.out)) declared.next_agents r.there) j e l) r.number none)
           next.before in
           let leads : leads_to c s.number n (next_content next.item) ≡ true =
           (and_from (place_of name.text (atom_names c) == n) (is_in s.number (places_of (next_content next.item).agents (agent_names c)))
@@ -319,8 +299,8 @@ module _ (p : Parsed) where
               item = placed_at r.place (out_content r.out);
               at = r.there;
               so = (
-                any_passes (leads_to c s.number n) (map next_content r.out.nexts) next.place (next_content next.item) (mapped_at next_content r.out.nexts next.place next.item next.at) leads,
-                λ both. not_so parties two.1 (and_from (stands_in r.atom.parties s.agent.name) (is_party_at p.atoms name s.agent)
+                any_from_place (leads_to c s.number n) (map next_content r.out.nexts) next.place (next_content next.item) (mapped_at next_content r.out.nexts next.place next.item next.at) leads,
+                λ both. false≢true (sym (not_so parties two.1) ∙ and_from (stands_in r.atom.parties s.agent.name) (is_party_at p.atoms name s.agent)
                     (party_stands p once r.place r.atom r.at s.number s.agent s.at both.0)
                     (party_named p once name s.number s.agent s.at declared_atom (subst (λ m. IsParty c m s.number) (number_is name) both.1))),
               );
@@ -352,9 +332,9 @@ module _ (p : Parsed) where
               item = placed_at r.place (out_content r.out);
               at = r.there;
               so = (
-                any_passes (is_named c s.number) (map case_content r.out.cases) case.place (case_content case.item) (mapped_at case_content r.out.cases case.place case.item case.at)
+                any_from_place (is_named c s.number) (map case_content r.out.cases) case.place (case_content case.item) (mapped_at case_content r.out.cases case.place case.item case.at)
                     named,
-                λ party. not_so (stands_in r.atom.parties s.agent.name) two.1 (party_stands p once r.place r.atom r.at s.number s.agent s.at party),
+                λ party. false≢true (sym (not_so (stands_in r.atom.parties s.agent.name) two.1) ∙ party_stands p once r.place r.atom r.at s.number s.agent s.at party),
               );
               before = r.before;
             },

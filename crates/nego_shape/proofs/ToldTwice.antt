@@ -4,6 +4,9 @@ use Rattle.std.proofs.lemmas.Bool.{and_parts}
 use Rattle.std.specs.List.{list_any}
 use Rattle.std.proofs.lemmas.Slice.Eq.{bytes_eq-Decides}
 use Rattle.nego_base.specs.declared.line.Word.{Word}
+use Rattle.nego_base.specs.Firsts.{first_among}
+use Rattle.nego_base.proofs.OptionLaws.{or_some, if_some}
+use Rattle.nego_base.proofs.Firsts.{numbered_some, among_some}
 use Rattle.nego_reader.specs.declared.parsed.Parsed.{Parsed}
 use Rattle.nego_reader.specs.declared.parsed.PAgent.{PAgent}
 use Rattle.nego_reader.specs.declared.parsed.PAtom.{PAtom}
@@ -11,10 +14,8 @@ use Rattle.nego_reader.specs.declared.parsed.POut.{POut}
 use Rattle.nego_reader.specs.declared.parsed.PNext.{PNext}
 use Rattle.nego_reader.specs.declared.parsed.PSet.{PSet}
 use Rattle.nego_shape.specs.Told.{HasSome, IsAgain, IsSentAgain, IsTwice}
-use Rattle.nego_shape.specs.Firsts.{first_among}
 use Rattle.nego_shape.specs.Faults.{same, stands_in, again, repeated, set_again, twice_in_sets, twice_in_case, leads, agent_again, twice_on_next, twice_on_nexts, twice_in_out, out_again, twice_from_out, twice_in_outs, twice_in_atom, atom_again, twice_from_atom, twice_in_atoms, name_again, twice_in_agents, twice_in}
 use Rattle.nego_shape.proofs.SoundPlaces.{any_at}
-use Rattle.nego_shape.proofs.Tellings.{or_some, if_some, numbered_some, among_some}
 
 same_texts : (word other : Word) → same word other ≡ true → other.text ≡ word.text
 same_texts word other h = (bytes_eq-Decides other.text word.text).0 h

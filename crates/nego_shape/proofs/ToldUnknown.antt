@@ -1,5 +1,6 @@
 -- A name that is told as unknown isn't declared.
-use Rattle.std.proofs.Common.{◌≡◌, ◌⊎◌, ⊎_elim, inl, inr, not, List, [], ◌∷◌, ◌++◌, map, get_or, Option, Some, ◌∙◌, subst, arith}
+use Rattle.std.proofs.Common.{◌≡◌, ◌⊎◌, ⊎_elim, inl, inr, not, List, [], ◌∷◌, ◌++◌, map, get_or, Option, Some, ◌∙◌, subst, sym, arith}
+use Rattle.std.proofs.lemmas.Bool.{false≢true}
 use Rattle.std.proofs.lemmas.Option.{none-some}
 use Rattle.std.proofs.lemmas.List.{length-map}
 use Rattle.std.proofs.lemmas.List.Elements.{All-head, All-tail, Contains-get_or}
@@ -7,6 +8,10 @@ use Rattle.std.specs.List.{All, Contains, flat_map}
 use Rattle.std.specs.Option.{option_or}
 use Rattle.std.specs.Str.{bytes_eq}
 use Rattle.nego_base.specs.declared.line.Word.{Word}
+use Rattle.nego_base.specs.Firsts.{first_among}
+use Rattle.nego_base.proofs.OptionLaws.{or_some, if_some}
+use Rattle.nego_base.proofs.Firsts.{among_some}
+use Rattle.nego_base.proofs.ListLaws.{All-at, All-front, All-back, All-each, All-unmap}
 use Rattle.nego_reader.specs.declared.parsed.Parsed.{Parsed}
 use Rattle.nego_reader.specs.declared.parsed.PAgent.{PAgent}
 use Rattle.nego_reader.specs.declared.parsed.PAtom.{PAtom}
@@ -20,17 +25,13 @@ use Rattle.nego_reader.specs.declared.parsed.PSet.{PSet}
 use Rattle.nego_reader.specs.declared.parsed.PTerm.{PTerm}
 use Rattle.nego_reader.specs.declared.parsed.PTerm.TheVariants as terms
 use Rattle.nego_reader.specs.Content.{AgentContent, AtomContent, content_of, agent_content, atom_content}
-use Rattle.nego_shape.specs.Firsts.{first_among}
 use Rattle.nego_shape.specs.Naming.{agent_names, atom_names}
 use Rattle.nego_shape.specs.Shaped.{IsDeclared}
 use Rattle.nego_shape.specs.Told.{right_words, test_words, term_words, set_words, case_words, out_words, agent_words, atom_words, IsUndeclared}
 use Rattle.nego_shape.specs.Faults.{is_agent, is_atom, unknown_agent, unknown_atom, unknown_right, unknown_in_test, unknown_term, unknown_in_set, unknown_in_case, unknown_in_next, unknown_in_out, unknown_in_atom, unknown_in}
 use Rattle.nego_shape.proofs.Sought.{position_or_len-map}
-use Rattle.nego_shape.proofs.ShapedCases.{All-front, All-back, All-each}
-use Rattle.nego_shape.proofs.SoundPlaces.{all_slice}
-use Rattle.nego_shape.proofs.SoundRules.{All-unmap}
 use Rattle.nego_shape.proofs.FaultlessSearches.{found_passes}
-use Rattle.nego_shape.proofs.Tellings.{or_some, if_some, among_some, not_so}
+use Rattle.nego_base.proofs.BoolLaws.{not_so}
 
 module _ (p : Parsed) (P Q : Word → Type 0) where
   -- the name of an agent that has the one, or of an atom that has the other, and isn't declared
@@ -44,7 +45,7 @@ module _ (p : Parsed) (P Q : Word → Type 0) where
   one_of o rest h k y e = ⊎_elim (λ l. h y l) (λ r. k y r.1) (or_some o rest y e)
 
   some_of : {A : Type 0} (f : A → Option Word) (xs : List A) → All (λ x. Finds (f x)) xs → Finds (first_among f xs)
-  some_of f xs h y e = let r = among_some f xs y e in all_slice (λ x. Finds (f x)) xs r.place r.item h r.at y r.gives
+  some_of f xs h y e = let r = among_some f xs y e in All-at (λ x. Finds (f x)) xs r.place r.item h r.at y r.gives
 
   strange_agent : (word : Word) → P word → Finds (unknown_agent p.agents word)
   strange_agent word used y h =
@@ -53,7 +54,7 @@ module _ (p : Parsed) (P Q : Word → Type 0) where
       ∙ position_or_len-map (λ (agent : AgentContent). bytes_eq agent.name word.text) agent_content p.agents in
       let count = length-map (map agent_content p.agents) (λ (agent : AgentContent). agent.name) ∙ length-map p.agents agent_content in
       subst IsStrange two.1
-      (inl (used, λ known. not_so (is_agent p.agents word) two.0 (found_passes (λ (agent : PAgent). bytes_eq agent.name.text word.text) p.agents (omega (arith, known, place, count)))))
+      (inl (used, λ known. false≢true (sym (not_so (is_agent p.agents word) two.0) ∙ found_passes (λ (agent : PAgent). bytes_eq agent.name.text word.text) p.agents (omega (arith, known, place, count)))))
 
   strange_atom : (word : Word) → Q word → Finds (unknown_atom p.atoms word)
   strange_atom word used y h =
@@ -62,7 +63,7 @@ module _ (p : Parsed) (P Q : Word → Type 0) where
       ∙ position_or_len-map (λ (atom : AtomContent). bytes_eq atom.name word.text) atom_content p.atoms in
       let count = length-map (map atom_content p.atoms) (λ (atom : AtomContent). atom.name) ∙ length-map p.atoms atom_content in
       subst IsStrange two.1
-      (inr (used, λ known. not_so (is_atom p.atoms word) two.0 (found_passes (λ (atom : PAtom). bytes_eq atom.name.text word.text) p.atoms (omega (arith, known, place, count)))))
+      (inr (used, λ known. false≢true (sym (not_so (is_atom p.atoms word) two.0) ∙ found_passes (λ (atom : PAtom). bytes_eq atom.name.text word.text) p.atoms (omega (arith, known, place, count)))))
 
   strange_words : (words : List Word) → All P words → Finds (first_among (unknown_agent p.agents) words)
   strange_words words h = some_of (unknown_agent p.agents) words (λ k d l. strange_agent (get_or words k d) (h k d l))

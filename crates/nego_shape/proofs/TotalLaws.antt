@@ -2,15 +2,16 @@
 use Rattle.std.proofs.Common.{◌≡◌, ℕ, ◌+◌, ◌<◌, ◌≤◌, List, length, drop, get_or, Option, None, sym, ap, ◌∙◌}
 use Rattle.std.specs.Option.{option_or}
 use Rattle.std.proofs.lemmas.List.{drop_all}
+use Rattle.nego_base.specs.Firsts.{first_numbered}
+use Rattle.nego_base.proofs.ListLaws.{cut_at}
 use Rattle.nego_reader.specs.declared.parsed.Parsed.{Parsed}
 use Rattle.nego_reader.specs.declared.parsed.PAtom.{PAtom}
 use Rattle.nego_shape.specs.declared.fault.ShapeFault.{ShapeFault}
 use Rattle.nego_shape.specs.declared.fault.ShapeAnswer.{ShapeAnswer}
 use Rattle.nego_shape.specs.declared.fault.ShapeAnswer.TheVariants as answers
 use Rattle.nego_shape.specs.Answer.{Tells}
-use Rattle.nego_shape.specs.Firsts.{first_numbered}
 use Rattle.nego_shape.specs.Faults.{not_total_among, not_total_from}
-use Rattle.nego_shape.proofs.FirstLaws.{cut_at, or_found, or_missed}
+use Rattle.nego_shape.proofs.FirstLaws.{or_found, or_missed}
 
 -- what is told of the first is told of all
 pub told_first : (e : ShapeAnswer) (first rest total : Option ShapeFault) → Tells e first → option_or first rest ≡ total → Tells e total

@@ -1,11 +1,12 @@
 -- The first fault of shape of a text. Each kind of fault is looked for in the whole text, in its order, before the next
 -- kind is.
 use Rattle.std.specs.Prelude.{ℕ, ◌+◌, ◌*◌, Bool, false, nat_lt, nat_le, ◌==◌, ◌||◌, ◌&&◌, not, if◌then◌else◌, position, List, [], ◌∷◌, ◌++◌, length, map, take, slice_get, unwrap_or, Option, Some, None}
-use Rattle.std.specs.List.{list_any, range_with_len}
+use Rattle.std.specs.List.{list_any}
 use Rattle.std.specs.Option.{option_or, option_map}
 use Rattle.std.specs.Str.{bytes_eq}
 use Rattle.nego_base.specs.declared.line.Word.{Word}
 use Rattle.nego_base.specs.declared.ids.AgentId.{AgentId}
+use Rattle.nego_base.specs.Firsts.{first_among, first_numbered}
 use Rattle.nego_reader.specs.declared.parsed.Parsed.{Parsed}
 use Rattle.nego_reader.specs.declared.parsed.PAgent.{PAgent}
 use Rattle.nego_reader.specs.declared.parsed.PAtom.{PAtom}
@@ -25,11 +26,8 @@ use Rattle.nego_shape.specs.declared.fault.ShapeKind.TheVariants as kinds
 use Rattle.nego_shape.specs.declared.fault.ShapeFault.{ShapeFault}
 use Rattle.nego_shape.specs.declared.checks.outcomes.Rule.{Rule}
 use Rattle.nego_shape.specs.declared.checks.outcomes.Rule.TheVariants as rules
-use Rattle.nego_data.specs.declared.cases.Case.{Case}
-use Rattle.nego_data.specs.Data.{data_count, split}
-use Rattle.nego_data.specs.Cases.{covers}
+use Rattle.nego_data.specs.CaseForm.{first_uncovered}
 use Rattle.nego_reader.specs.Content.{content_of, out_content}
-use Rattle.nego_shape.specs.Firsts.{first_among, first_numbered}
 use Rattle.nego_shape.specs.Naming.{sizes_in, cases_in}
 
 -- a fault on a line
@@ -397,10 +395,6 @@ abbrev pub form_fault : Parsed → Option ShapeFault
 form_fault p = option_or (no_agent p.agents) (option_or (too_many p) (option_or (twice p) (option_or (unknown p) (inner_fault p))))
 
 -- ---- joint data that no case covers
-
--- the least joint data that no case covers
-abbrev pub first_uncovered : List ℕ → List Case → Option ℕ
-first_uncovered sizes cases = position (λ d. not (list_any (λ case. covers case (split sizes d)) cases)) (range_with_len 0 (data_count sizes))
 
 -- the cases of the outcome of this number leave joint data uncovered
 abbrev pub not_total_at : Parsed → ℕ → POut → Option ShapeFault

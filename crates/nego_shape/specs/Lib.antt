@@ -3,7 +3,6 @@ pub mod Answers
 pub mod Conditions
 pub mod ContentLaws
 pub mod Faults
-pub mod Firsts
 pub mod Laws
 pub mod Made
 pub mod Naming

@@ -2,7 +2,7 @@
 
 ghost use Rattle.std.specs.Prelude.{◌≡◌, ◌+◌, ◌<◌, ◌≤◌, length, position, IfSome};
 ghost use Rattle.std.specs.List.{list_any};
-ghost use Rattle.nego_shape.specs.Firsts.{first_among};
+ghost use Rattle.nego_base.specs.Firsts.{first_among};
 ghost use Rattle.nego_shape.specs.Faults.{same, stands_in, out_names, is_last, is_missing, next_missing_at, is_stranger, atom_number, next_stranger_on, next_stranger_at, last_leads_at, case_line, right_names, test_names, term_names, set_names, case_names, is_outside, not_party_on, not_party_at, is_too_large, is_overfull, value_too_large_on, value_too_large_at, broken_at, broken_among, broken_from, broken};
 
 use super::{is_party_at, is_same, stands_in};
@@ -120,6 +120,7 @@ fn next_stranger_on(p: &Parsed, atom: &PAtom, o: usize, next: &PNext) -> Option<
 }
 
 /// The first stranger on next lines.
+#[tactic(auto, unfolding(nego_base::specs::Firsts::first_among))]
 fn next_stranger_among(p: &Parsed, atom: &PAtom, o: usize, nexts: &[PNext]) -> Option<ShapeFault>
     requires agents { length p.now.agents ≤ 16 }
     requires atoms { length p.now.atoms ≤ 64 }
@@ -234,6 +235,7 @@ fn not_party_on(p: &Parsed, atom: &PAtom, o: usize, case: &PCase) -> Option<Shap
 }
 
 /// The first agent in cases who is no party of the atom.
+#[tactic(auto, unfolding(nego_base::specs::Firsts::first_among))]
 fn not_party_among(p: &Parsed, atom: &PAtom, o: usize, cases: &[PCase]) -> Option<ShapeFault>
     requires agents { length p.now.agents ≤ 16 }
     requires outcome { o < 256 }
@@ -289,6 +291,7 @@ fn value_too_large_on(p: &Parsed, o: usize, case: &PCase) -> Option<ShapeFault>
 }
 
 /// The first agent whom a case assigns such a constant.
+#[tactic(auto, unfolding(nego_base::specs::Firsts::first_among))]
 fn value_too_large_among(p: &Parsed, o: usize, cases: &[PCase]) -> Option<ShapeFault>
     requires agents { length p.now.agents ≤ 16 }
     requires outcome { o < 256 }
@@ -319,6 +322,7 @@ fn broken_at(rule: Rule, p: &Parsed, atom: &PAtom, o: usize, out: &POut) -> Opti
 }
 
 /// What the outcomes of the atom, numbered from o on, break of the rule first.
+#[tactic(auto, unfolding(nego_base::specs::Firsts::first_numbered))]
 fn broken_among(rule: Rule, p: &Parsed, atom: &PAtom, o: usize, outs: &[POut]) -> Option<ShapeFault>
     requires agents { length p.now.agents ≤ 16 }
     requires atoms { length p.now.atoms ≤ 64 }

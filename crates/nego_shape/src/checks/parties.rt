@@ -25,6 +25,7 @@ fn no_party_at(n: usize, atom: &PAtom) -> Option<ShapeFault>
 }
 
 /// The first atom without a party.
+#[tactic(auto, unfolding(nego_base::specs::Firsts::first_numbered))]
 pub(crate) fn no_party(atoms: &[PAtom]) -> Option<ShapeFault>
     requires { length atoms.now ≤ 64 }
     ensures { result ≡ no_party atoms.now }
@@ -53,6 +54,7 @@ fn no_outcome_at(n: usize, atom: &PAtom) -> Option<ShapeFault>
 }
 
 /// The first atom without an outcome.
+#[tactic(auto, unfolding(nego_base::specs::Firsts::first_numbered))]
 pub(crate) fn no_outcome(atoms: &[PAtom]) -> Option<ShapeFault>
     requires { length atoms.now ≤ 64 }
     ensures { result ≡ no_outcome atoms.now }

@@ -3,7 +3,7 @@
 ghost use Rattle.std.specs.Prelude.{◌≡◌};
 ghost use Rattle.std.specs.List.{list_any};
 ghost use Rattle.std.specs.Option.{option_copied};
-ghost use Rattle.nego_shape.specs.Firsts.{first_among};
+ghost use Rattle.nego_base.specs.Firsts.{first_among};
 ghost use Rattle.nego_shape.specs.Faults.{same, again, repeated, set_again, twice_in_sets, twice_in_case, leads, agent_again, twice_among, twice_on_next, twice_on_nexts, twice_in_out, out_again, twice_from_out, twice_in_outs, twice_in_atom, atom_again, twice_from_atom, twice_in_atoms, name_again, twice_in_agents, twice_in};
 
 use super::{is_agent, is_atom, is_same, stands_in};
@@ -22,6 +22,7 @@ fn again<'a>(before: &[Word], word: &'a Word) -> Option<&'a Word>
 }
 
 /// The first word that stands before it too.
+#[tactic(auto, unfolding(nego_base::specs::Firsts::first_numbered))]
 fn repeated(words: &[Word]) -> Option<&Word>
     ensures { option_copied result ≡ repeated words.now }
 {
@@ -52,6 +53,7 @@ fn set_again<'a>(before: &[PSet], set: &'a PSet) -> Option<&'a Word>
 }
 
 /// The first agent assigned to twice.
+#[tactic(auto, unfolding(nego_base::specs::Firsts::first_numbered))]
 fn twice_in_sets(sets: &[PSet]) -> Option<&Word>
     ensures { option_copied result ≡ twice_in_sets sets.now }
 {
@@ -71,6 +73,7 @@ fn twice_in_case(case: &PCase) -> Option<&Word>
 }
 
 /// The first agent that a case assigns to twice.
+#[tactic(auto, unfolding(nego_base::specs::Firsts::first_among))]
 fn twice_in_cases(cases: &[PCase]) -> Option<&Word>
     ensures { option_copied result ≡ first_among twice_in_case cases.now }
 {
@@ -106,6 +109,7 @@ fn agent_again<'a>(
 }
 
 /// The first of the agents of a next line for the atom who stands there twice.
+#[tactic(auto, unfolding(nego_base::specs::Firsts::first_numbered))]
 fn twice_among<'a>(earlier: &[PNext], atom: &Word, agents: &'a [Word]) -> Option<&'a Word>
     ensures { option_copied result ≡ twice_among earlier.now atom.now agents.now }
 {
@@ -125,6 +129,7 @@ fn twice_on_next<'a>(earlier: &[PNext], next: &'a PNext) -> Option<&'a Word>
 }
 
 /// The first agent who stands twice on next lines for the same atom.
+#[tactic(auto, unfolding(nego_base::specs::Firsts::first_numbered))]
 fn twice_on_nexts(nexts: &[PNext]) -> Option<&Word>
     ensures { option_copied result ≡ twice_on_nexts nexts.now }
 {
@@ -169,6 +174,7 @@ fn twice_from_out<'a>(before: &[POut], out: &'a POut) -> Option<&'a Word>
 }
 
 /// The first that stands twice in the outcomes of an atom.
+#[tactic(auto, unfolding(nego_base::specs::Firsts::first_numbered))]
 fn twice_in_outs(outs: &[POut]) -> Option<&Word>
     ensures { option_copied result ≡ twice_in_outs outs.now }
 {
@@ -206,6 +212,7 @@ fn twice_from_atom<'a>(before: &[PAtom], atom: &'a PAtom) -> Option<&'a Word>
 }
 
 /// The first that stands twice in the atoms.
+#[tactic(auto, unfolding(nego_base::specs::Firsts::first_numbered))]
 fn twice_in_atoms(atoms: &[PAtom]) -> Option<&Word>
     ensures { option_copied result ≡ twice_in_atoms atoms.now }
 {
@@ -229,6 +236,7 @@ fn name_again<'a>(before: &[PAgent], agent: &'a PAgent) -> Option<&'a Word>
 }
 
 /// The first name that an earlier agent has.
+#[tactic(auto, unfolding(nego_base::specs::Firsts::first_numbered))]
 fn twice_in_agents(agents: &[PAgent]) -> Option<&Word>
     ensures { option_copied result ≡ twice_in_agents agents.now }
 {

@@ -2,7 +2,7 @@
 
 ghost use Rattle.std.specs.Prelude.{◌≡◌};
 ghost use Rattle.std.specs.Option.{option_copied};
-ghost use Rattle.nego_shape.specs.Firsts.{first_among};
+ghost use Rattle.nego_base.specs.Firsts.{first_among};
 ghost use Rattle.nego_shape.specs.Faults.{unknown_agent, unknown_atom, unknown_right, unknown_in_test, unknown_term, unknown_in_set, unknown_in_case, unknown_in_next, unknown_in_out, unknown_in_atom, unknown_in};
 
 use super::{is_agent, is_atom};
@@ -32,6 +32,7 @@ fn unknown_atom<'a>(atoms: &[PAtom], word: &'a Word) -> Option<&'a Word>
 }
 
 /// The first of the words that no agent has as its name.
+#[tactic(auto, unfolding(nego_base::specs::Firsts::first_among))]
 fn unknown_agents<'a>(agents: &[PAgent], words: &'a [Word]) -> Option<&'a Word>
     ensures { option_copied result ≡ first_among (unknown_agent agents.now) words.now }
 {
@@ -78,6 +79,7 @@ fn unknown_in_set<'a>(agents: &[PAgent], set: &'a PSet) -> Option<&'a Word>
 }
 
 /// The first name in comparisons that no agent has.
+#[tactic(auto, unfolding(nego_base::specs::Firsts::first_among))]
 fn unknown_in_tests<'a>(agents: &[PAgent], tests: &'a [PTest]) -> Option<&'a Word>
     ensures { option_copied result ≡ first_among (unknown_in_test agents.now) tests.now }
 {
@@ -90,6 +92,7 @@ fn unknown_in_tests<'a>(agents: &[PAgent], tests: &'a [PTest]) -> Option<&'a Wor
 }
 
 /// The first name in assignments that no agent has.
+#[tactic(auto, unfolding(nego_base::specs::Firsts::first_among))]
 fn unknown_in_sets<'a>(agents: &[PAgent], sets: &'a [PSet]) -> Option<&'a Word>
     ensures { option_copied result ≡ first_among (unknown_in_set agents.now) sets.now }
 {
@@ -112,6 +115,7 @@ fn unknown_in_case<'a>(agents: &[PAgent], case: &'a PCase) -> Option<&'a Word>
 }
 
 /// The first name in cases that no agent has.
+#[tactic(auto, unfolding(nego_base::specs::Firsts::first_among))]
 fn unknown_in_cases<'a>(agents: &[PAgent], cases: &'a [PCase]) -> Option<&'a Word>
     ensures { option_copied result ≡ first_among (unknown_in_case agents.now) cases.now }
 {
@@ -134,6 +138,7 @@ fn unknown_in_next<'a>(p: &Parsed, next: &'a PNext) -> Option<&'a Word>
 }
 
 /// The first name on next lines that isn't declared.
+#[tactic(auto, unfolding(nego_base::specs::Firsts::first_among))]
 fn unknown_in_nexts<'a>(p: &Parsed, nexts: &'a [PNext]) -> Option<&'a Word>
     ensures { option_copied result ≡ first_among (unknown_in_next p.now) nexts.now }
 {
@@ -156,6 +161,7 @@ fn unknown_in_out<'a>(p: &Parsed, out: &'a POut) -> Option<&'a Word>
 }
 
 /// The first name in outcomes that isn't declared.
+#[tactic(auto, unfolding(nego_base::specs::Firsts::first_among))]
 fn unknown_in_outs<'a>(p: &Parsed, outs: &'a [POut]) -> Option<&'a Word>
     ensures { option_copied result ≡ first_among (unknown_in_out p.now) outs.now }
 {
@@ -178,6 +184,7 @@ fn unknown_in_atom<'a>(p: &Parsed, atom: &'a PAtom) -> Option<&'a Word>
 }
 
 /// The first name in atoms that isn't declared.
+#[tactic(auto, unfolding(nego_base::specs::Firsts::first_among))]
 fn unknown_in_atoms<'a>(p: &Parsed, atoms: &'a [PAtom]) -> Option<&'a Word>
     ensures { option_copied result ≡ first_among (unknown_in_atom p.now) atoms.now }
 {

@@ -1,8 +1,8 @@
 use Rattle.std.proofs.Common.{◌≡◌, ◌+◌, ◌++◌, length, map, take, drop}
+use Rattle.nego_base.specs.Firsts.{first_numbered}
 use Rattle.nego_model.specs.Parts.{plain_outcome}
 use Rattle.nego_reader.specs.Content.{content_of, out_content}
 use Rattle.nego_shape.specs.Faults.{not_total_at, not_total_among}
-use Rattle.nego_shape.specs.Firsts.{first_numbered}
 use Rattle.nego_shape.specs.Naming.{outcome_in}
 use Rattle.nego_shape.specs.Made.{placed_at}
 use Rattle.nego_shape.proofs.making.add_outcomes.Given as goal

@@ -2,7 +2,7 @@ use Rattle.std.proofs.Common.{◌≡◌, ℕ, ◌<◌, List, [], length, map, So
 use Rattle.std.specs.List.{All}
 use Rattle.std.specs.Option.{option_map_or}
 use Rattle.nego_base.specs.declared.line.Word.{Word}
-use Rattle.nego_model.proofs.diagrams.Readers.{all_at_place, mapped_at}
+use Rattle.nego_base.proofs.ListLaws.{All-at, mapped_at}
 use Rattle.nego_reader.specs.declared.parsed.Parsed.{Parsed}
 use Rattle.nego_reader.specs.declared.parsed.PAtom.{PAtom}
 use Rattle.nego_reader.specs.Content.{AtomContent, content_of, atom_content, texts}
@@ -22,7 +22,7 @@ party_set-requires-clause-declared c =
     let c0 = content_of c.args.p.now in
     let here = atom_there c.text.result.now c.args.p.now c.args.n c.index.result.now c.text.ensures c.index.ensures in
     subst (λ (ws : List Word). All (IsDeclared (agent_names c0)) (texts ws)) (sym c.as_slice.ensures)
-    (all_at_place (λ (atom : AtomContent). All (IsDeclared (agent_names c0)) atom.parties) c0.atoms c.args.n (atom_content c.index.result.now) c.requires.shaped.declared.parties here)
+    (All-at (λ (atom : AtomContent). All (IsDeclared (agent_names c0)) atom.parties) c0.atoms c.args.n (atom_content c.index.result.now) c.requires.shaped.declared.parties here)
 
 pub returns : goal.returns
 returns c =

@@ -5,17 +5,18 @@ use Rattle.std.proofs.lemmas.List.{length-map}
 use Rattle.std.proofs.lemmas.List.Elements.{All-contains}
 use Rattle.nego_data.specs.declared.cases.Case.{Case}
 use Rattle.nego_data.specs.Cases.{rows_of}
-use Rattle.nego_data.specs.CaseForm.{NamesOnly, AssignsOnce, AssignsBelow, IsFirstUncovered, HasTableFault}
+use Rattle.nego_data.specs.CaseForm.{NamesOnly, AssignsOnce, AssignsBelow, IsFirstUncovered, HasTableFault, first_uncovered}
 use Rattle.nego_reader.specs.Content.{content_of, out_content, case_content}
 use Rattle.nego_shape.specs.declared.fault.ShapeKind.TheVariants as kinds
-use Rattle.nego_shape.specs.Faults.{fault_on, first_uncovered}
+use Rattle.nego_shape.specs.Faults.{fault_on}
 use Rattle.nego_shape.specs.Naming.{PlacedOut, agent_names, sizes_in, all_outs, parties_at, cases_in, case_in}
 use Rattle.nego_shape.specs.Shaped.{IsDeclared, IsNamedParty, AreDifferent, case_names, assigned_names}
 use Rattle.nego_shape.specs.Made.{placed_at}
 use Rattle.nego_shape.proofs.ShapedCases.{cases_in-named, cases_in-once}
 use Rattle.nego_shape.proofs.Places.{parties_at-below}
 use Rattle.nego_shape.proofs.PartsMade.{cases_read}
-use Rattle.nego_shape.proofs.SoundShape.{first_is, first_is_none}
+use Rattle.nego_shape.proofs.SoundShape.{first_is}
+use Rattle.nego_data.proofs.Uncovered.{covered-none}
 use Rattle.nego_shape.proofs.making.table.Goals as goal
 
 pub table_of-requires-clause-parties : goal.table_of-requires-clause-parties
@@ -64,7 +65,7 @@ returns-in-Ok-clause-total c =
     let cases : c.as_slice-2.result.now ≡ cases_in c0 (out_content c.args.out.now) =
     c.as_slice-2.ensures ∙ (c.in_ok-cases.ensures ∙ (ap (map (λ case. case_in c0 (case_content case))) c.as_slice.ensures ∙ cases_read c0 c.args.out.now.cases)) in
     ap (option_map (λ d. fault_on c.args.out.now.name.line (kinds.NotTotal c.args.o d)))
-    (subst (λ (cs : List Case). first_uncovered (sizes_in c0) cs ≡ None) cases (subst (λ sizes. first_uncovered sizes c.as_slice-2.result.now ≡ None) c.requires.sizes (first_is_none c.args.sizes.now c.as_slice-2.result.now c.in-Ok.ensures.covered)))
+    (subst (λ (cs : List Case). first_uncovered (sizes_in c0) cs ≡ None) cases (subst (λ sizes. first_uncovered sizes c.as_slice-2.result.now ≡ None) c.requires.sizes (covered-none c.args.sizes.now c.as_slice-2.result.now c.in-Ok.ensures.covered)))
 
 pub returns-clause-err : goal.returns-clause-err
 returns-clause-err c =

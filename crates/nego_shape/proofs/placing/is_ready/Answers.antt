@@ -1,4 +1,5 @@
-use Rattle.std.proofs.Common.{◌≡◌, ◌∙◌, sym, true, false}
+use Rattle.std.proofs.Common.{◌∙◌, sym}
+use Rattle.std.proofs.lemmas.Bool.{true≢false}
 use Rattle.nego_base.proofs.Members.{all_in-member, all_in-members}
 use Rattle.nego_model.proofs.diagrams.Negotiations.{atom_from_below}
 use Rattle.nego_shape.proofs.placing.is_ready.Goals as goal
@@ -14,7 +15,4 @@ returns-clause-yes c all = record {
 
 pub returns-clause-otherwise : goal.returns-clause-otherwise
 returns-clause-otherwise c otherwise ready =
-    differ (sym (c.within.ensures.value ∙ all_in-members c.before-2.result c.args.placed (λ m h. ready.behind m ((c.before-2.ensures m).0 h))) ∙ otherwise)
-  where
-    differ : true ≡ false → ⊥
-    differ e = cc
+    true≢false (sym (c.within.ensures.value ∙ all_in-members c.before-2.result c.args.placed (λ m h. ready.behind m ((c.before-2.ensures m).0 h))) ∙ otherwise)

@@ -1,8 +1,9 @@
 use Rattle.std.proofs.Common.{slice_get, ap, sym, ◌∙◌}
 use Rattle.std.specs.Option.{option_map, option_copied}
 use Rattle.nego_base.specs.declared.line.Word.{Word}
+use Rattle.nego_base.proofs.ListLaws.{none_at}
 use Rattle.nego_shape.specs.Faults.{out_names}
-use Rattle.nego_shape.proofs.OutNames.{in_atom, behind_atom, behind_atoms, few_items}
+use Rattle.nego_shape.proofs.OutNames.{in_atom, behind_atom, behind_atoms}
 use Rattle.nego_shape.proofs.checks.counts.out_line.Goals as goal
 
 pub returns-in-Some-clause-line : goal.returns-in-Some-clause-line
@@ -19,4 +20,4 @@ returns-clause-line c =
 
 pub returns-clause-few : goal.returns-clause-few
 returns-clause-few c =
-    few_items (out_names c.args.atoms.now) c.args.place (sym (behind_atoms c.args.atoms.now c.loop-atom.atom-index c.loop-atom.left (slice_get (out_names c.args.atoms.now) c.args.place) c.loop-atom-test.false c.loop-atom.invariant))
+    none_at (out_names c.args.atoms.now) c.args.place (sym (behind_atoms c.args.atoms.now c.loop-atom.atom-index c.loop-atom.left (slice_get (out_names c.args.atoms.now) c.args.place) c.loop-atom-test.false c.loop-atom.invariant))

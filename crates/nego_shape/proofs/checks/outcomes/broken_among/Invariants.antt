@@ -1,5 +1,5 @@
 use Rattle.std.proofs.Common.{◌≡◌, drop, ◌+◌}
-use Rattle.nego_shape.specs.Firsts.{first_numbered}
+use Rattle.nego_base.specs.Firsts.{first_numbered}
 use Rattle.nego_shape.specs.Faults.{broken_at}
 use Rattle.nego_shape.proofs.checks.outcomes.broken_among.Given as goal
 

@@ -1,5 +1,5 @@
 use Rattle.std.proofs.Common.{◌≡◌, drop}
-use Rattle.nego_shape.specs.Firsts.{first_among}
+use Rattle.nego_base.specs.Firsts.{first_among}
 use Rattle.nego_shape.specs.Faults.{next_stranger_on}
 use Rattle.nego_shape.proofs.checks.outcomes.next_stranger_among.Given as goal
 

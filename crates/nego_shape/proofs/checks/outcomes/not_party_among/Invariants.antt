@@ -1,5 +1,5 @@
 use Rattle.std.proofs.Common.{◌≡◌, drop}
-use Rattle.nego_shape.specs.Firsts.{first_among}
+use Rattle.nego_base.specs.Firsts.{first_among}
 use Rattle.nego_shape.specs.Faults.{not_party_on}
 use Rattle.nego_shape.proofs.checks.outcomes.not_party_among.Given as goal
 

@@ -1,5 +1,5 @@
 use Rattle.std.proofs.Common.{◌≡◌, drop, take}
-use Rattle.nego_shape.specs.Firsts.{first_numbered}
+use Rattle.nego_base.specs.Firsts.{first_numbered}
 use Rattle.nego_shape.specs.Faults.{name_again}
 use Rattle.nego_shape.proofs.checks.twice.twice_in_agents.Given as goal
 

@@ -1,5 +1,5 @@
 use Rattle.std.proofs.Common.{◌≡◌, drop}
-use Rattle.nego_shape.specs.Firsts.{first_among}
+use Rattle.nego_base.specs.Firsts.{first_among}
 use Rattle.nego_shape.specs.Faults.{unknown_agent}
 use Rattle.nego_shape.proofs.checks.unknown.unknown_agents.Given as goal
 

@@ -1,5 +1,5 @@
 use Rattle.std.proofs.Common.{◌≡◌, drop}
-use Rattle.nego_shape.specs.Firsts.{first_among}
+use Rattle.nego_base.specs.Firsts.{first_among}
 use Rattle.nego_shape.specs.Faults.{unknown_in_case}
 use Rattle.nego_shape.proofs.checks.unknown.unknown_in_cases.Given as goal
 
