@@ -185,6 +185,145 @@ cyclic m p
     ),
 ];
 
+/// Of several faults of one kind, the first place.
+static PLACES: [Row; 7] = [
+    // Two outcomes miss an agent.
+    (
+        b"nego 1
+agent a 2
+agent b 2
+atom m a b
+out x
+case :
+next n b
+out y
+case :
+next n a
+atom n a b
+out z
+case :
+first m
+last n
+end
+",
+        b"refused diagram line 5 NextMissing m.x a\n",
+    ),
+    // Three next lines name a stranger of the next atom.
+    (
+        b"nego 1
+agent a 2
+agent b 2
+atom m a b
+out x
+next n a b
+next o a
+next p a
+out y
+next n a b
+next o a
+atom o b
+out w
+next n b
+atom p b
+out v
+next n b
+atom n a b
+out z
+first m
+last n
+end
+",
+        b"refused diagram line 7 NextStranger m.x a o\n",
+    ),
+    // The last atom has three next lines.
+    (
+        b"nego 1
+agent a 2
+atom m a
+out x
+next k a
+next m a
+out y
+next m a
+atom k a
+out w
+next m a
+first m
+last m
+end
+",
+        b"refused diagram line 5 LastLeads m.x\n",
+    ),
+    // Three cases name an agent that is no party: in a test, in an assignment, and in a test of the next outcome.
+    (
+        b"nego 1
+agent a 2
+agent b 2
+atom m a b
+out x
+next o b
+next n a
+atom o b
+out y
+case a=0 :
+case : a:=1
+next n b
+out z
+case a=1 :
+next n b
+atom n a b
+out w
+first m
+last n
+end
+",
+        b"refused diagram line 10 NotParty o.y a\n",
+    ),
+    // Three cases assign too much, that of the second agent first.
+    (
+        b"nego 1
+agent a 2
+agent b 2
+atom m a b
+out x
+case : b:=2
+case : a:=2
+out y
+case : a:=3
+first m
+last m
+end
+",
+        b"refused diagram line 6 ValueTooLarge m.x b\n",
+    ),
+    // Neither the atom nor the agent of a next line is declared.
+    (
+        b"nego 1
+agent a 2
+atom m a
+out x
+next zz yy
+first m
+last m
+end
+",
+        b"refused diagram line 5 Unknown zz\n",
+    ),
+    // Two parties stand twice in an atom line, the later declared first.
+    (
+        b"nego 1
+agent a 2
+agent b 2
+atom m a b b a
+out x
+first m
+last m
+end
+",
+        b"refused diagram line 4 Twice b\n",
+    ),
+];
+
 /// A text that is made, and what `check` tells of it.
 struct Made {
     /// What stands before the agents.
@@ -299,6 +438,7 @@ pub(crate) fn shapes_are_told(rt: &impl Abort, alloc: Global) -> Result<(), Fail
     table_is_told(rt, alloc, &NAMING, "naming")?;
     table_is_told(rt, alloc, &LINKING, "linking")?;
     table_is_told(rt, alloc, &DATA, "data")?;
+    table_is_told(rt, alloc, &PLACES, "place")?;
     for (i, made) in MADE.iter().enumerate() {
         answers_to(
             rt,
