@@ -1,5 +1,5 @@
 -- What holds of the world at every moment.
-use Rattle.std.specs.Prelude.{◌≡◌, ℕ, ◌<◌, ◌≤◌, false, nat_le, length, map, position, slice_get, take, Some}
+use Rattle.std.specs.Prelude.{◌≡◌, ℕ, ◌<◌, ◌≤◌, false, nat_le, length, map, slice_get, take, Some}
 use Rattle.std.specs.List.{Contains, list_any}
 use Rattle.nego_data.specs.Data.{data_count}
 use Rattle.nego_model.specs.Diagram.{PlainDiagram}
@@ -7,7 +7,7 @@ use Rattle.agent_msg.specs.Messages.{ReadyMessage, DecideMessage, Message, Ready
 use Rattle.agent_msg.specs.Records.{Entry, decide_of}
 use Rattle.agent_core.specs.Agents.{PlainAgent, held_from, left_by}
 use Rattle.agent_core.specs.Acts.{ready_of, has_visit}
-use Rattle.agent_core.specs.Worlds.{PlainWorld, is_same, start_of, agent_of}
+use Rattle.agent_core.specs.Worlds.{PlainWorld, start_of, agent_of}
 use Rattle.agent_core.specs.Agreement.{AgreeWith}
 
 -- the agent of a number as its first records left it
@@ -42,14 +42,14 @@ pub record IsHeld (diagram : PlainDiagram) (world : PlainWorld) (a p : ℕ) (rea
   pub undecided : list_any (has_visit p (nat_le ready.visit)) (agent_of diagram world a).records ≡ false
 
 -- The world is consistent: it has the diagram's agents, each as its records leave it; the journals agree with the
--- history, which is one of the diagram from the start; each message that was sent stands once; each Ready that was sent
+-- history, which is one of the diagram from the start; each message that was sent stands at one place; each Ready that was sent
 -- was told, each Decide was decided, and each Ready that is held is still to be decided.
 pub record IsConsistent (diagram : PlainDiagram) (world : PlainWorld) : Type 0 where
   pub start : world.start < data_count diagram.sizes
   pub count : length world.agents ≡ length diagram.agents
   pub agents : (a : ℕ) → a < length diagram.agents → IsInPlace diagram world a
   pub journals : AgreeWith diagram world.start world.history (map (λ agent. agent.records) world.agents)
-  pub once : (i : ℕ) (m : Message) → slice_get world.sent i ≡ Some m → position (is_same m) world.sent ≡ Some i
+  pub once : (i j : ℕ) (m : Message) → slice_get world.sent i ≡ Some m → slice_get world.sent j ≡ Some m → i ≡ j
   pub readies : (ready : ReadyMessage) → Contains world.sent (ReadyOf ready) → WasTold diagram world ready
   pub decides : (decide : DecideMessage) → Contains world.sent (DecideOf decide) → WasDecided diagram world decide
   pub held : (a p : ℕ) (ready : ReadyMessage) → a < length diagram.agents → held_from (agent_of diagram world a) p ≡ Some ready → IsHeld diagram world a p ready
