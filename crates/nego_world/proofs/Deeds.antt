@@ -1,9 +1,9 @@
 -- Deeds that record nothing are allowed.
-use Rattle.std.proofs.Common.{◌≡◌, ⊎_elim, ℕ, zero, suc, ◌<◌, ◌≤◌, cond, List, [], ◌∷◌, length, map, take, replicate, slice_index_or, Option, Some, None, refl, sym, ap, subst, ◌∙◌, arith}
+use Rattle.std.proofs.Common.{◌≡◌, ⊎_elim, ℕ, zero, suc, ◌<◌, ◌≤◌, cond, [], length, map, take, Option, Some, None, refl, sym, ap, subst, ◌∙◌, arith}
 use Rattle.std.proofs.lemmas.Option.{none-some, same_Some}
 use Rattle.nego_base.proofs.Cases.{bind_some, chosen}
-use Rattle.agent_core.proofs.Valid.{left_by-same}
-use Rattle.std.proofs.lemmas.List.{take_all, length-replicate}
+use Rattle.agent_core.proofs.Valid.{left_by-same, none-held}
+use Rattle.std.proofs.lemmas.List.{take_all}
 use Rattle.std.specs.List.{Contains}
 use Rattle.std.specs.Option.{option_to_list}
 use Rattle.nego_model.specs.Diagram.{PlainDiagram}
@@ -11,23 +11,17 @@ use Rattle.agent_msg.specs.Messages.{ReadyMessage, DecideMessage, Message, Ready
 use Rattle.agent_core.specs.Agents.{PlainAgent, nothing_held, beginning, left_by}
 use Rattle.agent_core.specs.Acts.{is_leader, own_ready, ready_of, telling}
 use Rattle.agent_core.specs.Worlds.{PlainWorld, GoesOn, start_of, agent_of, deed_by, stopping}
-use Rattle.agent_core.specs.Consistency.{agent_at, WasTold, WasDecided, IsHeld, IsConsistent}
+use Rattle.agent_core.specs.Consistency.{agent_at, WasTold, WasDecided, IsConsistent}
 use Rattle.nego_world.proofs.Keeping.{IsAllowed, quiet}
 
 -- nobody is in an empty list of messages
 pub none-sent : {A : Type 0} (m : Message) → Contains [] m → A
 none-sent m c = absurd (omega (arith, c.1))
 
--- of an agent that holds nothing no Ready is held
-pub none-held : (k p : ℕ) (ready : ReadyMessage) → slice_index_or (replicate k None) p None ≡ Some ready → ⊥
-none-held zero p ready h = none-some ready h
-none-held (suc k) zero ready h = none-some ready h
-none-held (suc k) (suc p) ready h = none-held k p ready h
-
 -- stopping is allowed
 pub stopping-allowed : (diagram : PlainDiagram) (world : PlainWorld) (a : ℕ) → IsConsistent diagram world → a < length diagram.agents → IsAllowed diagram world (deed_by a GoesOn stopping)
 stopping-allowed diagram world a was known =
-    quiet diagram world a nothing_held [] was known refl (λ p ready h. absurd (none-held 16 p ready h)) (λ ready c. none-sent (ReadyOf ready) c) (λ decide c. none-sent (DecideOf decide) c)
+    quiet diagram world a nothing_held [] was known refl (λ p ready h. absurd (none-held p ready h)) (λ ready c. none-sent (ReadyOf ready) c) (λ decide c. none-sent (DecideOf decide) c)
 
 -- what an agent tells is its own, with as many visits as it has records
 pub own-ready : (diagram : PlainDiagram) (agent : PlainAgent) (ready : ReadyMessage) → ready_of diagram agent ≡ Some ready → (ready.from ≡ agent.id) × (ready.visit ≡ length agent.records)

@@ -1,5 +1,5 @@
 -- What an agent may do keeps the world consistent.
-use Rattle.std.proofs.Common.{◌≡◌, ◌≢◌, ◌⊎◌, ⊎_elim, ℕ, ◌+◌, ◌<◌, ◌≤◌, List, [], ◌∷◌, ◌++◌, length, map, nat_le, take, fold, slice_set, slice_index_or, Option, Some, None, refl, sym, ap, subst, ◌∙◌, arith, append-nil, length-append}
+use Rattle.std.proofs.Common.{◌≡◌, ⊎_elim, ℕ, ◌<◌, ◌≤◌, List, [], ◌++◌, length, map, nat_le, take, slice_index_or, Option, Some, None, refl, sym, ap, subst, ◌∙◌, arith, append-nil, length-append}
 use Rattle.std.proofs.lemmas.List.{take-append-le, length-set, get_or-map}
 use Rattle.std.specs.List.{Contains, list_any}
 use Rattle.std.specs.Option.{option_to_list, option_map_or}
@@ -8,11 +8,11 @@ use Rattle.agent_msg.specs.Messages.{ReadyMessage, DecideMessage, Message, Ready
 use Rattle.agent_msg.specs.Records as journal
 use Rattle.agent_core.specs.Agents.{PlainAgent, held_from, recorded, beginning, left_by}
 use Rattle.agent_core.specs.Acts.{Act, ready_of, has_visit, after_act}
-use Rattle.agent_core.specs.Worlds.{PlainWorld, Deed, with_message, start_of, agent_of, after_deed}
+use Rattle.agent_core.specs.Worlds.{PlainWorld, Deed, start_of, agent_of, after_deed}
 use Rattle.agent_core.specs.Agreement.{Agrees, IsHistoryOf}
-use Rattle.agent_core.specs.Consistency.{agent_at, IsInPlace, WasTold, WasDecided, IsHeld, IsConsistent}
+use Rattle.agent_core.specs.Consistency.{IsInPlace, WasTold, WasDecided, IsHeld, IsConsistent}
 use Rattle.agent_core.proofs.Valid.{left_by-push, same_or_not}
-use Rattle.nego_world.proofs.Sent.{Contains-front, sent-kept, sent-from, agent-after, others-after}
+use Rattle.nego_world.proofs.Sent.{Contains-front, sent-kept, sent-from, once-kept, agent-after, others-after}
 
 -- What an agent may do: what it holds then is held in the world after it; the history after it is one, and the journals
 -- agree with it; what it sends was told or decided.
@@ -135,6 +135,7 @@ module _ (diagram : PlainDiagram) (world : PlainWorld) (deed : Deed) (was : IsCo
     count = length-set world.agents deed.agent (after_act diagram (agent_of diagram world deed.agent) deed.act) ∙ was.count;
     agents = place-kept;
     journals = record { run = may.history; each = λ b known. subst (λ rs. Agrees diagram after.history b rs) (sym (journal-at b known)) (may.agrees b known) };
+    once = once-kept deed.act.sends world.sent was.once;
     readies = λ ready c. ⊎_elim (λ old. told-kept diagram world deed was may.known ready (was.readies ready old)) (λ new. may.readies ready new) (sent-from deed.act.sends world.sent (ReadyOf ready) c);
     decides = λ decide c. ⊎_elim (λ old. decided-kept diagram world deed was may.known decide (was.decides decide old)) (λ new. may.decides decide new) (sent-from deed.act.sends world.sent (DecideOf decide) c);
     held = held-kept;

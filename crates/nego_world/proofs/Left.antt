@@ -1,22 +1,21 @@
 -- Where a history leaves an agent.
-use Rattle.std.proofs.Common.{◌≡◌, ◌⊎◌, ⊎_elim, ℕ, ◌<◌, ◌==◌, ◌||◌, Bool, true, false, List, [], ◌∷◌, ◌++◌, length, map, cond, slice_get, slice_index, Option, Some, None, IsTrue, refl, sym, ap, subst, ◌∙◌, append-nil, append_assoc, eqb-true}
+use Rattle.std.proofs.Common.{◌≡◌, ⊎_elim, ℕ, ◌<◌, ◌==◌, ◌||◌, Bool, true, false, List, [], ◌∷◌, ◌++◌, length, map, cond, slice_get, Some, refl, sym, ap, subst, ◌∙◌, append-nil, append_assoc, eqb-true}
 use Rattle.std.proofs.lemmas.Bool.{false≢true}
 use Rattle.std.proofs.lemmas.Option.{same_Some}
 use Rattle.std.specs.Option.{option_map_or}
 use Rattle.nego_base.specs.Members.{is_in}
 use Rattle.nego_base.proofs.Members.{in_or_not}
-use Rattle.nego_data.specs.Data.{data_count, split}
-use Rattle.nego_model.specs.Negotiation.{Negotiation}
+use Rattle.nego_data.specs.Data.{data_count}
 use Rattle.nego_model.specs.Occurring.{PlainMarking, ready, after, leaves, opening_marking}
-use Rattle.nego_model.specs.Joining.{Entry, By, steps_of, joint_after, AreRelated}
+use Rattle.nego_model.specs.Joining.{Entry, By, steps_of, joint_after}
 use Rattle.nego_model.specs.Diagram.{PlainDiagram, IsDiagram, negotiation_of, relation_of, parties_of, leader_of, nexts_of}
 use Rattle.nego_model.proofs.occurrence.Steps.{after-outcome, leaves_before, length-run}
 use Rattle.nego_model.proofs.occurrence.ReachedMarkings.{ready-after_party, ready-after_other}
 use Rattle.nego_model.proofs.occurrence.Markings.{ready-replicate}
 use Rattle.nego_model.proofs.occurrence.Joined.{related_parts}
 use Rattle.nego_model.proofs.occurrence.Histories.{steps_of-append, joint_after-append, history_leaves, History-front, joint_after-below}
-use Rattle.agent_msg.specs.Records.{Share, Moved, Decided}
-use Rattle.agent_core.specs.Agents.{PlainAgent, share_of, value_after, record_outcome, recorded, beginning, left_by}
+use Rattle.agent_msg.specs.Records.{Moved, Decided}
+use Rattle.agent_core.specs.Agents.{share_of, value_after, record_outcome, recorded, beginning, left_by}
 use Rattle.agent_core.specs.Deciding.{value_in}
 use Rattle.agent_core.specs.Agreement.{share_in, record_of, journal_of, IsHistoryOf}
 use Rattle.agent_core.proofs.Valid.{left_by-push, left_by-same}

@@ -3,6 +3,17 @@ pub mod Left
 pub mod Places
 pub mod Prefixes
 pub mod Standing
+pub mod Steps
 pub mod Sent
+pub mod Agents
 pub mod Keeping
 pub mod Deeds
+pub mod Giving
+pub mod Moves
+pub mod Knowing
+pub mod Chosen
+pub mod Deciding
+pub mod Beginning
+pub mod Finishing
+pub mod Happening
+pub mod Entries

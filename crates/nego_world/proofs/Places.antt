@@ -1,14 +1,11 @@
 -- The entry of a history at which an agent has so many records.
-use Rattle.std.proofs.Common.{◌≡◌, ◌⊎◌, ⊎_elim, ℕ, zero, suc, ◌+◌, ◌<◌, ◌≤◌, Bool, true, false, List, [], ◌∷◌, ◌++◌, length, cond, refl, sym, ap, subst, ◌∙◌, append_assoc, arith}
-use Rattle.std.proofs.lemmas.Bool.{cond-true, cond-false}
+use Rattle.std.proofs.Common.{◌≡◌, ⊎_elim, ℕ, zero, suc, ◌+◌, ◌<◌, true, List, [], ◌∷◌, ◌++◌, length, refl, ap, subst, ◌∙◌, arith}
 use Rattle.nego_base.specs.Members.{is_in}
 use Rattle.nego_base.proofs.Members.{in_or_not}
 use Rattle.nego_model.specs.Joining.{Entry}
-use Rattle.nego_model.specs.Projection.{own_entries}
 use Rattle.nego_model.specs.Diagram.{PlainDiagram, negotiation_of, parties_of}
-use Rattle.nego_model.proofs.occurrence.Histories.{own_entries-append, own_entries-party, own_entries-other}
+use Rattle.nego_model.proofs.occurrence.Histories.{own_entries-party, own_entries-other}
 use Rattle.agent_core.specs.Agreement.{visits}
-use Rattle.agent_core.proofs.Numbers.{false_from}
 
 -- an entry of an agent's own, and as many of its own before it as this
 pub record OwnAt (diagram : PlainDiagram) (a v : ℕ) (history : List Entry) : Type 0 where

@@ -1,5 +1,5 @@
 -- Where the sender of a Ready stands on which its receiver hasn't decided.
-use Rattle.std.proofs.Common.{◌≡◌, ⊎_elim, ℕ, ◌+◌, ◌<◌, ◌≤◌, ◌==◌, ◌||◌, Bool, true, false, List, [], ◌∷◌, ◌++◌, length, map, take, cond, nat_le, slice_get, Option, Some, None, IsTrue, refl, sym, ap, subst, ◌∙◌, append_assoc, arith, eq-eqb, le-leb, length-append}
+use Rattle.std.proofs.Common.{◌≡◌, ⊎_elim, ℕ, ◌<◌, ◌≤◌, ◌||◌, true, false, List, [], ◌∷◌, ◌++◌, length, map, take, cond, nat_le, slice_get, Some, IsTrue, sym, ap, subst, ◌∙◌, append_assoc, arith, eq-eqb, le-leb}
 use Rattle.std.proofs.lemmas.Bool.{false≢true, cases_lt}
 use Rattle.std.proofs.lemmas.Option.{same_Some}
 use Rattle.std.proofs.lemmas.List.{length-replicate}
@@ -8,29 +8,28 @@ use Rattle.std.proofs.Math.Bool.{or-true}
 use Rattle.std.specs.Option.{option_map_or}
 use Rattle.std.specs.List.{list_any}
 use Rattle.nego_base.specs.Members.{is_in}
-use Rattle.nego_base.proofs.Members.{some_member, All-member}
+use Rattle.nego_base.proofs.Members.{some_member}
 use Rattle.nego_data.specs.Data.{data_count}
 use Rattle.nego_model.specs.Negotiation.{IsDeterministic}
-use Rattle.nego_model.specs.Occurring.{PlainMarking, ready, after, leaves, opening_marking}
+use Rattle.nego_model.specs.Occurring.{ready, leaves, opening_marking}
 use Rattle.nego_model.specs.Joining.{Entry, By, steps_of}
 use Rattle.nego_model.specs.Diagram.{PlainDiagram, IsDiagram, negotiation_of, relation_of, parties_of, leader_of}
-use Rattle.nego_model.proofs.occurrence.Steps.{after-some, leaves_before, length-run}
+use Rattle.nego_model.proofs.occurrence.Steps.{after-some, leaves_before}
 use Rattle.nego_model.proofs.occurrence.Markings.{enables-atom, enables-party}
 use Rattle.nego_model.proofs.occurrence.Proper.{leaves-single, opening-single}
 use Rattle.nego_model.proofs.occurrence.Histories.{steps_of-append, history_leaves, History-front}
-use Rattle.nego_model.proofs.diagrams.Negotiations.{atom-below}
-use Rattle.nego_model.proofs.diagrams.Readers.{first_member, parties-below}
+use Rattle.nego_model.proofs.diagrams.Readers.{first_member}
 use Rattle.agent_msg.specs.Records.{Share, Moved, Decided}
 use Rattle.agent_msg.specs.Records as journal
-use Rattle.agent_core.specs.Agents.{left_by, share_of}
+use Rattle.agent_core.specs.Agents.{left_by}
 use Rattle.agent_core.specs.Acts.{has_visit}
 use Rattle.agent_core.specs.Deciding.{value_in}
 use Rattle.agent_core.specs.Agreement.{visits, share_in, record_of, records_behind, journal_of, Agrees, IsHistoryOf}
 use Rattle.agent_core.proofs.Open.{index-member, length_from_member}
 use Rattle.nego_world.proofs.Journals.{records_behind-append, length-records}
-use Rattle.nego_world.proofs.Left.{IsLeft, left-history, share_in-party}
+use Rattle.nego_world.proofs.Left.{left-history, share_in-party}
 use Rattle.nego_world.proofs.Places.{OwnAt, own_at}
-use Rattle.nego_world.proofs.Prefixes.{take-agreed, any-agreed, whole, lacks}
+use Rattle.nego_world.proofs.Prefixes.{take-agreed, any-agreed, whole}
 
 -- the leader of an atom is one of its parties
 pub leader-party : (diagram : PlainDiagram) (n : ℕ) → IsDiagram diagram → IsTrue (is_in n (negotiation_of diagram).atoms) → IsTrue (is_in (leader_of diagram n) (parties_of diagram n))

@@ -4,7 +4,6 @@ use Rattle.nego_model.specs.Diagram.{PlainDiagram}
 use Rattle.agent_core.specs.Worlds.{PlainEvent, Tell, Give, Decide, Stop, GoesOn, StopsBefore, StopsAfter}
 use Rattle.nego_world.specs.declared.event.Event.{Event}
 use Rattle.nego_world.specs.declared.event.Event.TheVariants as events
-use Rattle.nego_world.specs.declared.event.EventLine.{EventLine}
 use Rattle.nego_world.specs.declared.event.Schedule.{Schedule}
 
 -- the event in plain numbers

@@ -1,3 +1,4 @@
 pub mod Events
 pub mod WorldView
 pub mod Stepping
+pub mod Laws

@@ -1,5 +1,5 @@
 -- What a step answers.
-use Rattle.std.specs.Prelude.{◌≡◌, ℕ, ◌≤◌, List, length, map, slice_get, Option, None, Some, Ok, Err, All, ⊤}
+use Rattle.std.specs.Prelude.{◌≡◌, ℕ, ◌≤◌, List, length, slice_get, Option, None, Some, Ok, Err, All, ⊤}
 use Rattle.std.specs.Option.{option_map, option_and_then}
 use Rattle.nego_model.specs.Diagram.{PlainDiagram}
 use Rattle.agent_msg.specs.Messages.{ReadyMessage, DecideMessage, Message, ready_message, decide_message}

@@ -3,11 +3,13 @@
 
 mod answers;
 mod event;
-mod playing;
-mod stepping;
+mod laws;
 mod world;
 
 pub use answers::{PlayFault, StepFault, StepWhy, Stepped};
 pub use event::{Event, EventLine, Schedule};
-pub use playing::play;
+pub use laws::{
+    agents_of_consistent_worlds_are_valid, consistent_worlds_finish_complete,
+    events_keep_worlds_consistent, first_worlds_are_consistent, schedules_leave_consistent_worlds,
+};
 pub use world::World;

@@ -1,21 +1,15 @@
 //! The world of all agents, and what one reads of it.
-ghost use Rattle.std.specs.Prelude.{◌≡◌, ◌<◌, length, map, filter, not, position, slice_get, Some, IfOk};
-ghost use Rattle.std.specs.Option.{option_map, is_some};
-ghost use Rattle.nego_data.specs.Data.{data_count};
-ghost use Rattle.nego_model.specs.Negotiation.{IsDeterministic};
+ghost use Rattle.std.specs.Prelude.{◌≡◌, ◌<◌, length, slice_get, Some};
+ghost use Rattle.std.specs.Option.{option_map};
 ghost use Rattle.nego_model.specs.Joining.{steps_of};
-ghost use Rattle.nego_model.specs.Diagram.{negotiation_of};
 ghost use Rattle.nego_model.specs.Followed.{occurrences};
 ghost use Rattle.agent_msg.specs.Messages.{message};
-ghost use Rattle.agent_core.specs.Worlds.{first_world, is_same};
-ghost use Rattle.agent_core.specs.Consistency.{IsConsistent};
 
 use agent_core::Agent;
 use agent_msg::Msg;
 use indexmap::IndexSet;
-use nego_base::{AgentId, Memory, Seq};
-use nego_model::{Diagram, Run};
-use std::alloc::Global;
+use nego_base::{AgentId, Seq};
+use nego_model::Run;
 use std::marker::Model;
 
 /// The world of all agents. Contracts see a plain world.
@@ -44,16 +38,6 @@ impl Model for World {
 }
 
 impl World {
-    /// The world at the beginning, where no agent has a record.
-    pub fn new(alloc: Global, d: &Diagram, start: u16) -> Result<World, Memory>
-        requires deterministic { IsDeterministic (negotiation_of d.now) }
-        requires start { start < data_count d.now.sizes }
-        ensures world { IfOk result (λ w. w ≡ first_world d.now start) }
-        ensures consistent { IfOk result (IsConsistent d.now) }
-    {
-        Err(Memory)
-    }
-
     /// An agent of the world.
     pub fn agent(&self, a: AgentId) -> &Agent
         requires { a.0 < length self.now.agents }
@@ -76,14 +60,6 @@ impl World {
         self.sent.get_index(i as usize).copied()
     }
 
-    /// The number of a message that was sent.
-    pub fn number_of(&self, m: &Msg) -> Option<u32>
-        ensures { result ≡ position (is_same (message m.now)) self.now.sent }
-    {
-        let i = self.sent.get_index_of(m)?;
-        Some(i as u32)
-    }
-
     /// The occurrences of the history.
     pub fn history(&self) -> &Run
         ensures { occurrences result.now ≡ steps_of self.now.history }
@@ -97,16 +73,5 @@ impl World {
         ensures { option_map (λ entry. entry.joint) (slice_get self.now.history i) ≡ Some result }
     {
         self.joints[i]
-    }
-
-    /// How many agents are finished.
-    pub fn finished(&self) -> u32
-        ensures { result ≡ length (filter (λ agent. not (is_some agent.at)) self.now.agents) }
-    {
-        self.agents
-            .as_slice()
-            .iter()
-            .filter(|agent| agent.at().is_none())
-            .count() as u32
     }
 }
