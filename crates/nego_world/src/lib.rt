@@ -1,8 +1,10 @@
-//! The world of all agents: what a schedule of events makes of it.
+//! The world of all agents: what holds of it, whatever happens. Events and answers are declared for the calls that let
+//! events happen, which are still to come.
 #![tactic(auto)]
 
 mod answers;
 mod event;
+mod first;
 mod laws;
 mod world;
 
