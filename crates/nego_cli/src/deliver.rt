@@ -1,7 +1,7 @@
 //! Puts an answer on `out`, or the line of a failure on `err`.
 
 ghost use Rattle.std.specs.Prelude.{◌≡◌, ◌⊎◌, ◌≤◌, IfErr, IfOk, OnErr};
-ghost use Rattle.nego_cli.specs.Effect.{HasFaulted, effect};
+ghost use Rattle.nego_cli.specs.Effect.{effect};
 ghost use Rattle.nego_cli.specs.Refusals.{IsNamed};
 ghost use Rattle.nego_cli.specs.Answer.{failure_line, failure_status};
 ghost use Rattle.nego_cli.specs.Delivery.{IsTextPut, IsLinePut, IsFailurePut, IsDelivered, FailureIsNamed};

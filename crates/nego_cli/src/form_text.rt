@@ -22,23 +22,22 @@ pub(crate) fn print_form(alloc: Global, d: &Diagram) -> Result<Text, Memory>
     let choice = determined(d).err();
     let order = order(alloc, d)?;
     let mut text = Text::new(alloc);
-    add_count(alloc, &mut text, b"agents", d.agents())?;
-    add_count(alloc, &mut text, b"atoms", d.atoms())?;
-    add_count(alloc, &mut text, b"outcomes", d.outcomes())?;
-    add_count(alloc, &mut text, b"joint", d.sizes().all() as u32)?;
+    add_count(&mut text, b"agents", d.agents())?;
+    add_count(&mut text, b"atoms", d.atoms())?;
+    add_count(&mut text, b"outcomes", d.outcomes())?;
+    add_count(&mut text, b"joint", d.sizes().all() as u32)?;
     add_determined(&mut text, d, choice)?;
     add_order(&mut text, d, &order)?;
     Ok(text)
 }
 
 /// Adds a number behind its name, on a line.
-fn add_count(alloc: Global, text: &mut Text, name: &[u8], n: u32) -> Result<(), Memory>
+fn add_count(text: &mut Text, name: &[u8], n: u32) -> Result<(), Memory>
     ensures { OnOk result (Appends text.old text.new (count_line name.now n)) }
 {
-    let digits = n.to_string(alloc)?;
     text.extend_from_slice(name)?;
     text.extend_from_slice(b" ")?;
-    text.extend_from_slice(digits.as_bytes())?;
+    text.push_decimal(u64::from(n))?;
     text.extend_from_slice(b"\n")
 }
 

@@ -32,12 +32,12 @@ fn add_refusal(alloc: Global, text: &mut Text, why: &Refusal) -> Result<(), Memo
             text.extend_from_slice(b" TooLong")
         }
         Refusal::NoEnd(part, line) => {
-            add_place(alloc, text, *part, *line)?;
+            add_place(text, *part, *line)?;
             text.extend_from_slice(b"NoEnd")
         }
-        Refusal::Off(part, fault) => add_fault(alloc, text, *part, *fault),
+        Refusal::Off(part, fault) => add_fault(text, *part, *fault),
         Refusal::Misshapen(p, fault) => {
-            add_place(alloc, text, PartName::Diagram, fault.line)?;
+            add_place(text, PartName::Diagram, fault.line)?;
             add_kind(alloc, text, p, &fault.kind)
         }
         Refusal::Undetermined(d, o, a) => {
@@ -49,24 +49,22 @@ fn add_refusal(alloc: Global, text: &mut Text, why: &Refusal) -> Result<(), Memo
 }
 
 /// Adds the name of a part and the number of a line.
-fn add_place(alloc: Global, text: &mut Text, part: PartName, line: u32) -> Result<(), Memory>
+fn add_place(text: &mut Text, part: PartName, line: u32) -> Result<(), Memory>
     ensures { OnOk result (Appends text.old text.new (place_words part line)) }
 {
-    let digits = line.to_string(alloc)?;
     text.extend_from_slice(part_name(part))?;
     text.extend_from_slice(b" line ")?;
-    text.extend_from_slice(digits.as_bytes())?;
+    text.push_decimal(u64::from(line))?;
     text.extend_from_slice(b" ")
 }
 
 /// Adds the place and the kind of a fault of grammar.
-fn add_fault(alloc: Global, text: &mut Text, part: PartName, fault: Fault) -> Result<(), Memory>
+fn add_fault(text: &mut Text, part: PartName, fault: Fault) -> Result<(), Memory>
     ensures { OnOk result (Appends text.old text.new (fault_words part fault)) }
 {
-    let column = fault.column.to_string(alloc)?;
-    add_place(alloc, text, part, fault.line)?;
+    add_place(text, part, fault.line)?;
     text.extend_from_slice(b"column ")?;
-    text.extend_from_slice(column.as_bytes())?;
+    text.push_decimal(u64::from(fault.column))?;
     text.extend_from_slice(b" ")?;
     text.extend_from_slice(kind_name(fault.kind))
 }

@@ -93,25 +93,25 @@ fn add_values(alloc: Global, text: &mut Text, p: &Parsed, d: u16) -> Result<(), 
 {
     let sizes = sizes_of(alloc, p)?;
     let values = sizes.split(d);
-    add_numbers(alloc, text, &values[..sizes.count() as usize])
+    add_numbers(text, &values[..sizes.count() as usize])
 }
 
 /// Adds numbers, each behind a blank.
-fn add_numbers(alloc: Global, text: &mut Text, numbers: &[u16]) -> Result<(), Memory>
+fn add_numbers(text: &mut Text, numbers: &[u16]) -> Result<(), Memory>
     ensures { OnOk result (Appends text.old text.new (value_words numbers.now)) }
 {
     for n in numbers {
-        add_number(alloc, text, *n)?;
+        add_number(text, *n)?;
     }
     Ok(())
 }
 
 /// Adds a number behind a blank.
-fn add_number(alloc: Global, text: &mut Text, n: u16) -> Result<(), Memory>
+fn add_number(text: &mut Text, n: u16) -> Result<(), Memory>
     ensures { OnOk result (Appends text.old text.new (λ rest. codes " " ++ (decimal n ++ rest))) }
 {
-    let digits = n.to_string(alloc)?;
-    add_named(text, b" ", digits.as_bytes())
+    text.extend_from_slice(b" ")?;
+    text.push_decimal(u64::from(n))
 }
 
 /// The name of an agent, and no bytes where there is none of this number.

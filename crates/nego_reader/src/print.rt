@@ -15,11 +15,10 @@ use nego_base::{Memory, Op, Text, Word};
 use std::alloc::Global;
 
 /// Puts the number behind the text.
-fn put_number(alloc: Global, text: &mut Text, n: u32) -> Result<(), Memory>
+fn put_number(text: &mut Text, n: u32) -> Result<(), Memory>
     ensures { OnOk result (text.new ≡ text.old ++ decimal n) }
 {
-    let number = n.to_string(alloc)?;
-    text.extend_from_slice(number.as_bytes())
+    text.push_decimal(u64::from(n))
 }
 
 /// The operator as it is spelled.
@@ -37,63 +36,63 @@ fn op_text(op: Op) -> &'static [u8]
 }
 
 /// Puts the right side of a comparison behind the text.
-fn put_right(alloc: Global, text: &mut Text, right: &PRight) -> Result<(), Memory>
+fn put_right(text: &mut Text, right: &PRight) -> Result<(), Memory>
     ensures { OnOk result (text.new ≡ text.old ++ right_text right.now) }
 {
     match right {
-        PRight::Number(n) => put_number(alloc, text, *n),
+        PRight::Number(n) => put_number(text, *n),
         PRight::Name(name) => text.extend_from_slice(name.text.as_slice()),
     }
 }
 
 /// Puts the comparison behind the text.
-fn put_test(alloc: Global, text: &mut Text, test: &PTest) -> Result<(), Memory>
+fn put_test(text: &mut Text, test: &PTest) -> Result<(), Memory>
     ensures { OnOk result (text.new ≡ text.old ++ test_text test.now) }
 {
     text.extend_from_slice(test.left.text.as_slice())?;
     text.extend_from_slice(op_text(test.op))?;
-    put_right(alloc, text, &test.right)
+    put_right(text, &test.right)
 }
 
 /// Puts the name and the number behind the text, the sign between them.
-fn put_sum(alloc: Global, text: &mut Text, name: &Word, sign: u8, n: u32) -> Result<(), Memory>
+fn put_sum(text: &mut Text, name: &Word, sign: u8, n: u32) -> Result<(), Memory>
     ensures { OnOk result (text.new ≡ text.old ++ (name.now.text ++ sign ∷ decimal n)) }
 {
     text.extend_from_slice(name.text.as_slice())?;
     text.push(sign)?;
-    put_number(alloc, text, n)
+    put_number(text, n)
 }
 
 /// Puts the name plus the number behind the text.
-fn put_plus(alloc: Global, text: &mut Text, name: &Word, n: u32) -> Result<(), Memory>
+fn put_plus(text: &mut Text, name: &Word, n: u32) -> Result<(), Memory>
     ensures { OnOk result (text.new ≡ text.old ++ plus_text name.now.text n) }
 {
     if n == 0 {
         text.extend_from_slice(name.text.as_slice())
     } else {
-        put_sum(alloc, text, name, b'+', n)
+        put_sum(text, name, b'+', n)
     }
 }
 
 /// Puts what is assigned behind the text.
-fn put_term(alloc: Global, text: &mut Text, term: &PTerm) -> Result<(), Memory>
+fn put_term(text: &mut Text, term: &PTerm) -> Result<(), Memory>
     ensures { OnOk result (text.new ≡ text.old ++ term_text term.now) }
 {
     match term {
         PTerm::Any => text.push(b'*'),
-        PTerm::Number(n) => put_number(alloc, text, *n),
-        PTerm::Plus(name, n) => put_plus(alloc, text, name, *n),
-        PTerm::Minus(name, n) => put_sum(alloc, text, name, b'-', *n),
+        PTerm::Number(n) => put_number(text, *n),
+        PTerm::Plus(name, n) => put_plus(text, name, *n),
+        PTerm::Minus(name, n) => put_sum(text, name, b'-', *n),
     }
 }
 
 /// Puts the assignment behind the text.
-fn put_set(alloc: Global, text: &mut Text, set: &PSet) -> Result<(), Memory>
+fn put_set(text: &mut Text, set: &PSet) -> Result<(), Memory>
     ensures { OnOk result (text.new ≡ text.old ++ set_text set.now) }
 {
     text.extend_from_slice(set.agent.text.as_slice())?;
     text.extend_from_slice(b":=")?;
-    put_term(alloc, text, &set.term)
+    put_term(text, &set.term)
 }
 
 /// Puts the words behind the text, a blank before each.
@@ -108,23 +107,23 @@ fn put_words(text: &mut Text, words: &[Word]) -> Result<(), Memory>
 }
 
 /// Puts the comparisons behind the text, a blank before each.
-fn put_tests(alloc: Global, text: &mut Text, tests: &[PTest]) -> Result<(), Memory>
+fn put_tests(text: &mut Text, tests: &[PTest]) -> Result<(), Memory>
     ensures { OnOk result (text.new ≡ text.old ++ behind_blanks (map test_text tests.now)) }
 {
     for test in tests {
         text.push(b' ')?;
-        put_test(alloc, text, test)?;
+        put_test(text, test)?;
     }
     Ok(())
 }
 
 /// Puts the assignments behind the text, a blank before each.
-fn put_sets(alloc: Global, text: &mut Text, sets: &[PSet]) -> Result<(), Memory>
+fn put_sets(text: &mut Text, sets: &[PSet]) -> Result<(), Memory>
     ensures { OnOk result (text.new ≡ text.old ++ behind_blanks (map set_text sets.now)) }
 {
     for set in sets {
         text.push(b' ')?;
-        put_set(alloc, text, set)?;
+        put_set(text, set)?;
     }
     Ok(())
 }
@@ -141,43 +140,43 @@ fn put_named(text: &mut Text, keyword: &[u8], name: &Word, words: &[Word]) -> Re
 }
 
 /// Puts the agent's line behind the text.
-fn put_agent(alloc: Global, text: &mut Text, agent: &PAgent) -> Result<(), Memory>
+fn put_agent(text: &mut Text, agent: &PAgent) -> Result<(), Memory>
     ensures { OnOk result (text.new ≡ text.old ++ line_text (row_words (AgentRow agent.now))) }
 {
     text.extend_from_slice(b"agent ")?;
     text.extend_from_slice(agent.name.text.as_slice())?;
     text.push(b' ')?;
-    put_number(alloc, text, agent.size)?;
+    put_number(text, agent.size)?;
     text.push(b'\n')
 }
 
 /// Puts the case's line behind the text.
-fn put_case(alloc: Global, text: &mut Text, case: &PCase) -> Result<(), Memory>
+fn put_case(text: &mut Text, case: &PCase) -> Result<(), Memory>
     ensures { OnOk result (text.new ≡ text.old ++ line_text (row_words (CaseRow case.now))) }
 {
     text.extend_from_slice(b"case")?;
-    put_tests(alloc, text, case.tests.as_slice())?;
+    put_tests(text, case.tests.as_slice())?;
     text.extend_from_slice(b" :")?;
-    put_sets(alloc, text, case.sets.as_slice())?;
+    put_sets(text, case.sets.as_slice())?;
     text.push(b'\n')
 }
 
 /// Puts the agents' lines behind the text.
-fn put_agents(alloc: Global, text: &mut Text, agents: &[PAgent]) -> Result<(), Memory>
+fn put_agents(text: &mut Text, agents: &[PAgent]) -> Result<(), Memory>
     ensures { OnOk result (text.new ≡ text.old ++ row_texts (map AgentRow agents.now)) }
 {
     for agent in agents {
-        put_agent(alloc, text, agent)?;
+        put_agent(text, agent)?;
     }
     Ok(())
 }
 
 /// Puts the cases' lines behind the text.
-fn put_cases(alloc: Global, text: &mut Text, cases: &[PCase]) -> Result<(), Memory>
+fn put_cases(text: &mut Text, cases: &[PCase]) -> Result<(), Memory>
     ensures { OnOk result (text.new ≡ text.old ++ row_texts (map CaseRow cases.now)) }
 {
     for case in cases {
-        put_case(alloc, text, case)?;
+        put_case(text, case)?;
     }
     Ok(())
 }
@@ -194,39 +193,39 @@ fn put_nexts(text: &mut Text, nexts: &[PNext]) -> Result<(), Memory>
 
 /// Puts the outcome's lines behind the text.
 #[tactic(auto, unfolding(crate::specs::Rows::out_rows))]
-fn put_out(alloc: Global, text: &mut Text, out: &POut) -> Result<(), Memory>
+fn put_out(text: &mut Text, out: &POut) -> Result<(), Memory>
     ensures { OnOk result (text.new ≡ text.old ++ row_texts (out_rows out.now)) }
 {
     put_named(text, b"out", &out.name, &[])?;
-    put_cases(alloc, text, out.cases.as_slice())?;
+    put_cases(text, out.cases.as_slice())?;
     put_nexts(text, out.nexts.as_slice())
 }
 
 /// Puts the outcomes' lines behind the text.
-fn put_outs(alloc: Global, text: &mut Text, outs: &[POut]) -> Result<(), Memory>
+fn put_outs(text: &mut Text, outs: &[POut]) -> Result<(), Memory>
     ensures { OnOk result (text.new ≡ text.old ++ row_texts (flat_map out_rows outs.now)) }
 {
     for out in outs {
-        put_out(alloc, text, out)?;
+        put_out(text, out)?;
     }
     Ok(())
 }
 
 /// Puts the atom's lines behind the text.
 #[tactic(auto, unfolding(crate::specs::Rows::atom_rows))]
-fn put_atom(alloc: Global, text: &mut Text, atom: &PAtom) -> Result<(), Memory>
+fn put_atom(text: &mut Text, atom: &PAtom) -> Result<(), Memory>
     ensures { OnOk result (text.new ≡ text.old ++ row_texts (atom_rows atom.now)) }
 {
     put_named(text, b"atom", &atom.name, atom.parties.as_slice())?;
-    put_outs(alloc, text, atom.outs.as_slice())
+    put_outs(text, atom.outs.as_slice())
 }
 
 /// Puts the atoms' lines behind the text.
-fn put_atoms(alloc: Global, text: &mut Text, atoms: &[PAtom]) -> Result<(), Memory>
+fn put_atoms(text: &mut Text, atoms: &[PAtom]) -> Result<(), Memory>
     ensures { OnOk result (text.new ≡ text.old ++ row_texts (flat_map atom_rows atoms.now)) }
 {
     for atom in atoms {
-        put_atom(alloc, text, atom)?;
+        put_atom(text, atom)?;
     }
     Ok(())
 }
@@ -246,8 +245,8 @@ fn printed(alloc: Global, p: &Parsed) -> Result<Text, Memory>
     ensures { IfOk result (λ text. text ≡ row_texts (rows_of p.now)) }
 {
     let mut text = Text::copy(alloc, b"nego 1\n")?;
-    put_agents(alloc, &mut text, p.agents.as_slice())?;
-    put_atoms(alloc, &mut text, p.atoms.as_slice())?;
+    put_agents(&mut text, p.agents.as_slice())?;
+    put_atoms(&mut text, p.atoms.as_slice())?;
     put_ends(&mut text, &p.first, &p.last)?;
     Ok(text)
 }
