@@ -2,7 +2,7 @@
 ghost use Rattle.std.specs.Prelude.{◌≡◌, ◌<◌, ℕ, length, All, IsTrue, IfOk, ⊤};
 ghost use Rattle.nego_model.specs.Expression.{IsNodeList, NodeBases, children};
 ghost use Rattle.nego_model.specs.Summary.{IsFormed};
-ghost use Rattle.nego_expr.specs.Plain.{plain_node};
+ghost use Rattle.nego_expr.specs.NodeView.{plain_node};
 ghost use Rattle.nego_expr.specs.SummaryText.{plain_summary};
 
 use crate::{ask, holds};
