@@ -13,8 +13,8 @@ use Rattle.nego_merge.proofs.MergeKeeps.{merging}
 use Rattle.nego_iterate.proofs.IterateKeeps.{iterating}
 use Rattle.nego_shortcut.proofs.CloseKeeps.{closing}
 use Rattle.nego_shortcut.proofs.ShortcutKeeps.{shortcuts_keep}
-use Rattle.nego_cli.specs.Order.{IsNextUse, Reduces}
-use Rattle.nego_cli.proofs.NextUses.{next_allowed}
+use Rattle.nego_reduce.specs.Order.{IsNextUse, Reduces}
+use Rattle.nego_reduce.proofs.NextUses.{next_allowed}
 
 -- each rule keeps what a work is
 pub uses_keep : UsesKeep

@@ -3,7 +3,7 @@ use Rattle.std.proofs.Common.{◌≡◌, inl, inr, ⊎_elim, ℕ, ◌<◌, Bool,
 use Rattle.std.proofs.lemmas.Bool.{and_parts, true≢false, cases_lt}
 use Rattle.nego_expr.specs.Work.{PlainWork, outcomes_at}
 use Rattle.nego_expr.specs.Use.{PlainUse, Merge, Iterate, Shortcut, Close, allows}
-use Rattle.nego_cli.specs.Order.{IsPairBelow, IsNextUse, NextUsesAreOne, has_passed, takes_shortcut}
+use Rattle.nego_reduce.specs.Order.{IsPairBelow, IsNextUse, NextUsesAreOne, has_passed, takes_shortcut}
 
 -- a shortcut that the order takes is allowed
 taken_allowed : (work : PlainWork) (o n : ℕ) → IsTrue (takes_shortcut work o n) → IsTrue (allows work (Shortcut o n))

@@ -1,6 +1,6 @@
 //! Laws of the order of uses. Each function does nothing; its clause is the law.
 
-ghost use Rattle.nego_cli.specs.Order.{NextUsesAreOne};
+ghost use Rattle.nego_reduce.specs.Order.{NextUsesAreOne};
 ghost use Rattle.nego_expr.specs.Keeps.{UsesKeep};
 
 /// A work has at most one next use, so that the uses of the order are determined.

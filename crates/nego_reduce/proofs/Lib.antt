@@ -1,0 +1,2 @@
+pub mod NextUses
+pub mod UsesLead

@@ -1,0 +1,10 @@
+//! The strategy: rules are used in one order, until one atom is left, or no rule may be used any more.
+#![tactic(auto)]
+
+mod laws;
+mod reduced;
+mod reducing;
+
+pub use laws::{next_uses_are_one, uses_keep};
+pub use reduced::Reduced;
+pub use reducing::reduce;
