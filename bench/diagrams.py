@@ -1,0 +1,90 @@
+"""Diagrams of a chosen number of outcomes, as texts that nego reads."""
+
+
+def header(agents):
+    return ["nego 1"] + [f"agent {name} {size}" for name, size in agents]
+
+
+def outcome(name, case, nexts):
+    return [f"out {name}", f"case {case}"] + [f"next {atom} {' '.join(agents)}" for atom, agents in nexts]
+
+
+def text(lines, first, last):
+    return "\n".join(lines + [f"first {first}", f"last {last}", "end"]) + "\n"
+
+
+def stages(outcomes):
+    """Stages one behind the other, each with four outcomes that lead to the next one, so that they merge."""
+    agents = [("a", 4), ("b", 4)]
+    count = outcomes // 4
+    lines = header(agents)
+    for i in range(count):
+        lines.append(f"atom s{i} a b")
+        for j in range(4):
+            nexts = [(f"s{i + 1}", ["a", "b"])] if i + 1 < count else []
+            lines += outcome(f"o{j}", f": a:={j}", nexts)
+    return text(lines, "s0", f"s{count - 1}")
+
+
+def loops(outcomes):
+    """Stages of which each may be repeated, and is left by three outcomes."""
+    agents = [("a", 4), ("b", 4)]
+    count = outcomes // 4
+    lines = header(agents)
+    for i in range(count):
+        lines.append(f"atom s{i} a b")
+        nexts = [(f"s{i + 1}", ["a", "b"])] if i + 1 < count else []
+        again = [(f"s{i}", ["a", "b"])] if i + 1 < count else []
+        lines += outcome("again", ": a:=a+1", again)
+        for j in range(3):
+            lines += outcome(f"o{j}", f": b:=b-{j}", nexts)
+    return text(lines, "s0", f"s{count - 1}")
+
+
+def forks(outcomes):
+    """Forks of two agents who each decide alone, and meet again; the choices come together by shortcuts."""
+    agents = [("a", 4), ("b", 4)]
+    count = max(1, (outcomes - 1) // 7)
+    lines = header(agents)
+    for i in range(count):
+        lines.append(f"atom m{i} a b")
+        lines += outcome("go", ":", [(f"a{i}", ["a"]), (f"b{i}", ["b"])])
+        for agent in "ab":
+            lines.append(f"atom {agent}{i} {agent}")
+            for j in range(3):
+                lines += outcome(f"o{j}", f": {agent}:={j}", [(f"m{i + 1}", [agent])])
+    lines.append(f"atom m{count} a b")
+    lines += outcome("ok", ":", [])
+    return text(lines, "m0", f"m{count}")
+
+
+def hub():
+    """A hub that sends two agents to fifteen and fourteen places, from which they come back: it meets the limit of nodes."""
+    lines = header([("a", 1), ("b", 1)])
+    lines.append("atom hub a b")
+    for i in range(15):
+        for j in range(14):
+            lines += outcome(f"p_{i}_{j}", ":", [(f"x{i}", ["a"]), (f"y{j}", ["b"])])
+    lines += outcome("stop", ":", [("end", ["a", "b"])])
+    for agent, place, count in (("a", "x", 15), ("b", "y", 14)):
+        for i in range(count):
+            lines.append(f"atom {place}{i} {agent}")
+            lines += outcome("back", ":", [("hub", [agent])])
+    lines.append("atom end a b")
+    lines += outcome("ok", ":", [])
+    return text(lines, "hub", "end")
+
+
+def counter(size, rounds):
+    """Loops one behind the other, over one agent with many values: what an answer costs."""
+    lines = header([("a", size), ("b", 1024 // size)])
+    for i in range(rounds):
+        lines.append(f"atom s{i} a b")
+        lines += outcome("again", ": a:=a+1", [(f"s{i}", ["a", "b"])])
+        lines += outcome("on", ": b:=b+1", [(f"s{i + 1}", ["a", "b"])])
+    lines.append(f"atom s{rounds} a b")
+    lines += outcome("ok", ":", [])
+    return text(lines, "s0", f"s{rounds}")
+
+
+FAMILIES = {"stages": stages, "loops": loops, "forks": forks}
