@@ -1,2 +1,3 @@
 pub mod NextUses
 pub mod UsesLead
+pub mod complete

@@ -1,14 +1,14 @@
 -- The laws of the order.
-use Rattle.std.specs.Prelude.{◌≡◌, ◌↔◌, List, length}
+use Rattle.std.specs.Prelude.{◌≡◌, ◌↔◌, ℕ, List, length}
 use Rattle.nego_model.specs.Occurring.{IsSound}
-use Rattle.nego_model.specs.Acyclic.{IsAcyclic}
+use Rattle.nego_model.specs.Acyclic.{IsAcyclic, IsForwardOrder, IsRankedBy}
 use Rattle.nego_model.specs.Diagram.{PlainDiagram, negotiation_of}
 use Rattle.nego_model.specs.Summary.{PlainSummary, Tells}
-use Rattle.nego_expr.specs.Work.{PlainWork}
+use Rattle.nego_expr.specs.Work.{PlainWork, negotiation_of_work}
 use Rattle.nego_expr.specs.Use.{PlainUse}
 use Rattle.nego_expr.specs.Lead.{Lead}
 use Rattle.nego_expr.specs.StandsFor.{IsFresh}
-use Rattle.nego_reduce.specs.Order.{IsNextUse, HasNoNextUse, Reduces}
+use Rattle.nego_reduce.specs.Order.{IsNextUse, HasNoIteration, HasNoNextUse, Reduces}
 use Rattle.nego_reduce.specs.Bound.{AreFew}
 use Rattle.nego_reduce.specs.Reducing.{IsFull}
 
@@ -19,6 +19,12 @@ UsesAreFew = (diagram : PlainDiagram) (work end : PlainWork) (uses : List PlainU
 -- The nodes of an acyclic diagram are never too many.
 abbrev pub AcyclicIsNeverFull : Type 0
 AcyclicIsNeverFull = (diagram : PlainDiagram) (work end : PlainWork) (uses : List PlainUse) → IsFresh work diagram → IsAcyclic (negotiation_of diagram) → Lead IsNextUse work uses end → ¬ IsFull end
+
+-- The works to which uses lead from the fresh work of an acyclic diagram are ranked by each forward order of the diagram, and
+-- allow no iteration.
+abbrev pub AcyclicWorksStayRanked : Type 0
+AcyclicWorksStayRanked = (diagram : PlainDiagram) (order : List ℕ) (work end : PlainWork) (uses : List PlainUse) → IsFresh work diagram → IsForwardOrder (negotiation_of diagram) order → Lead IsNextUse work uses end →
+    IsRankedBy (negotiation_of_work end) order × HasNoIteration end
 
 -- Of an acyclic diagram one atom is left, where no use is the next one, exactly where the diagram is sound.
 abbrev pub AcyclicIsDecided : Type 0

@@ -2,6 +2,7 @@
 
 ghost use Rattle.nego_reduce.specs.Order.{NextUsesAreOne};
 ghost use Rattle.nego_expr.specs.Keeps.{UsesKeep};
+ghost use Rattle.nego_reduce.specs.Laws.{AcyclicWorksStayRanked};
 
 /// A work has at most one next use, so that the uses of the order are determined.
 pub fn next_uses_are_one()
@@ -11,4 +12,10 @@ pub fn next_uses_are_one()
 /// Each use that a work allows, by whichever rule, leaves a work and keeps what this one was.
 pub fn uses_keep()
     ensures { UsesKeep }
+{}
+
+/// The works to which uses lead from the fresh work of an acyclic diagram are ranked by the diagram's own forward orders, so
+/// that no iteration is ever allowed there.
+pub fn acyclic_works_stay_ranked()
+    ensures { AcyclicWorksStayRanked }
 {}

@@ -1,0 +1,4 @@
+-- Of an acyclic diagram one atom is left exactly where it is sound.
+pub mod GoingForward
+pub mod ForwardUses
+pub mod AcyclicWorks
