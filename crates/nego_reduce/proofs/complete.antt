@@ -2,3 +2,6 @@
 pub mod GoingForward
 pub mod ForwardUses
 pub mod AcyclicWorks
+pub mod LeastUses
+pub mod ReducedWorks
+pub mod AcyclicDecided

@@ -1,11 +1,11 @@
 -- The laws of the order.
-use Rattle.std.specs.Prelude.{◌≡◌, ◌↔◌, ℕ, List, length}
+use Rattle.std.specs.Prelude.{◌≡◌, ◌⊎◌, ◌↔◌, ℕ, ◌<◌, List, length, IsTrue}
 use Rattle.nego_model.specs.Occurring.{IsSound}
 use Rattle.nego_model.specs.Acyclic.{IsAcyclic, IsForwardOrder, IsRankedBy}
 use Rattle.nego_model.specs.Diagram.{PlainDiagram, negotiation_of}
 use Rattle.nego_model.specs.Summary.{PlainSummary, Tells}
-use Rattle.nego_expr.specs.Work.{PlainWork, negotiation_of_work}
-use Rattle.nego_expr.specs.Use.{PlainUse}
+use Rattle.nego_expr.specs.Work.{PlainWork, IsWork, outcomes_at, negotiation_of_work}
+use Rattle.nego_expr.specs.Use.{PlainUse, Merge, Shortcut, Close, allows}
 use Rattle.nego_expr.specs.Lead.{Lead}
 use Rattle.nego_expr.specs.StandsFor.{IsFresh}
 use Rattle.nego_reduce.specs.Order.{IsNextUse, HasNoIteration, HasNoNextUse, Reduces}
@@ -30,6 +30,16 @@ AcyclicWorksStayRanked = (diagram : PlainDiagram) (order : List ℕ) (work end :
 abbrev pub AcyclicIsDecided : Type 0
 AcyclicIsDecided = (diagram : PlainDiagram) (work end : PlainWork) (uses : List PlainUse) → IsFresh work diagram → IsAcyclic (negotiation_of diagram) → Lead IsNextUse work uses end → HasNoNextUse end →
     (length end.atoms ≡ 1) ↔ IsSound (negotiation_of diagram)
+
+-- A merge, a shortcut into an atom of one outcome, or closing is allowed.
+abbrev pub GoesOn : PlainWork → Type 0
+GoesOn work =
+    ((o1 o2 : ℕ) × IsTrue (allows work (Merge o1 o2)))
+    ⊎ (((o n : ℕ) × IsTrue (allows work (Shortcut o n)) × (length (outcomes_at work n) ≡ 1)) ⊎ IsTrue (allows work Close))
+
+-- An acyclic work allows no iteration, and goes on, where it is sound and has more than one atom.
+abbrev pub SoundAcyclicWorksGoOn : Type 0
+SoundAcyclicWorksGoOn = (work : PlainWork) → IsWork work → IsAcyclic (negotiation_of_work work) → HasNoIteration work × (IsSound (negotiation_of_work work) → 1 < length work.atoms → GoesOn work)
 
 -- The summary to which a diagram is reduced tells the diagram.
 abbrev pub ReducedTells : Type 0

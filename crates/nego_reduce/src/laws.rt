@@ -2,7 +2,7 @@
 
 ghost use Rattle.nego_reduce.specs.Order.{NextUsesAreOne};
 ghost use Rattle.nego_expr.specs.Keeps.{UsesKeep};
-ghost use Rattle.nego_reduce.specs.Laws.{AcyclicWorksStayRanked};
+ghost use Rattle.nego_reduce.specs.Laws.{AcyclicWorksStayRanked, AcyclicIsDecided, SoundAcyclicWorksGoOn};
 
 /// A work has at most one next use, so that the uses of the order are determined.
 pub fn next_uses_are_one()
@@ -18,4 +18,16 @@ pub fn uses_keep()
 /// that no iteration is ever allowed there.
 pub fn acyclic_works_stay_ranked()
     ensures { AcyclicWorksStayRanked }
+{}
+
+/// An acyclic work allows no iteration. A sound one with more than one atom allows a merge, a shortcut into an atom of one
+/// outcome, or closing.
+pub fn sound_acyclic_works_go_on()
+    ensures { SoundAcyclicWorksGoOn }
+{}
+
+/// When the order's uses have come to an end on the fresh work of an acyclic diagram, one atom is left exactly where the
+/// diagram is sound.
+pub fn acyclic_is_decided()
+    ensures { AcyclicIsDecided }
 {}
