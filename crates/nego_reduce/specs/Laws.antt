@@ -1,5 +1,5 @@
 -- The laws of the order.
-use Rattle.std.specs.Prelude.{◌≡◌, ◌⊎◌, ◌↔◌, ℕ, ◌<◌, List, length, IsTrue}
+use Rattle.std.specs.Prelude.{◌≡◌, ◌⊎◌, ◌↔◌, ℕ, ◌<◌, false, List, length, IsTrue}
 use Rattle.nego_model.specs.Occurring.{IsSound}
 use Rattle.nego_model.specs.Acyclic.{IsAcyclic, IsForwardOrder, IsRankedBy}
 use Rattle.nego_model.specs.Diagram.{PlainDiagram, negotiation_of}
@@ -8,7 +8,7 @@ use Rattle.nego_expr.specs.Work.{PlainWork, IsWork, outcomes_at, negotiation_of_
 use Rattle.nego_expr.specs.Use.{PlainUse, Merge, Shortcut, Close, allows}
 use Rattle.nego_expr.specs.Lead.{Lead}
 use Rattle.nego_expr.specs.StandsFor.{IsFresh}
-use Rattle.nego_reduce.specs.Order.{IsNextUse, HasNoIteration, HasNoNextUse, Reduces}
+use Rattle.nego_reduce.specs.Order.{IsNextUse, HasNoIteration, HasNoNextUse, Reduces, has_passed}
 use Rattle.nego_reduce.specs.Bound.{AreFew}
 use Rattle.nego_reduce.specs.Reducing.{IsFull}
 
@@ -25,6 +25,11 @@ AcyclicIsNeverFull = (diagram : PlainDiagram) (work end : PlainWork) (uses : Lis
 abbrev pub AcyclicWorksStayRanked : Type 0
 AcyclicWorksStayRanked = (diagram : PlainDiagram) (order : List ℕ) (work end : PlainWork) (uses : List PlainUse) → IsFresh work diagram → IsForwardOrder (negotiation_of diagram) order → Lead IsNextUse work uses end →
     IsRankedBy (negotiation_of_work end) order × HasNoIteration end
+
+-- There an outcome that may enter an atom has never passed it, so that passed atoms hinder no shortcut.
+abbrev pub PassedAtomsNeverHinder : Type 0
+PassedAtomsNeverHinder = (diagram : PlainDiagram) (work end : PlainWork) (uses : List PlainUse) → IsFresh work diagram → IsAcyclic (negotiation_of diagram) → Lead IsNextUse work uses end →
+    (o n : ℕ) → IsTrue (allows end (Shortcut o n)) → has_passed end o n ≡ false
 
 -- Of an acyclic diagram one atom is left, where no use is the next one, exactly where the diagram is sound.
 abbrev pub AcyclicIsDecided : Type 0

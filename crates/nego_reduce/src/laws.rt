@@ -2,7 +2,7 @@
 
 ghost use Rattle.nego_reduce.specs.Order.{NextUsesAreOne};
 ghost use Rattle.nego_expr.specs.Keeps.{UsesKeep};
-ghost use Rattle.nego_reduce.specs.Laws.{AcyclicWorksStayRanked, AcyclicIsDecided, SoundAcyclicWorksGoOn};
+ghost use Rattle.nego_reduce.specs.Laws.{AcyclicWorksStayRanked, PassedAtomsNeverHinder, AcyclicIsDecided, SoundAcyclicWorksGoOn};
 
 /// A work has at most one next use, so that the uses of the order are determined.
 pub fn next_uses_are_one()
@@ -18,6 +18,11 @@ pub fn uses_keep()
 /// that no iteration is ever allowed there.
 pub fn acyclic_works_stay_ranked()
     ensures { AcyclicWorksStayRanked }
+{}
+
+/// On these works an outcome that may enter an atom has never passed it, so that passed atoms hinder no shortcut there.
+pub fn passed_atoms_never_hinder()
+    ensures { PassedAtomsNeverHinder }
 {}
 
 /// An acyclic work allows no iteration. A sound one with more than one atom allows a merge, a shortcut into an atom of one

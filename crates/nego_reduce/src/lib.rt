@@ -5,6 +5,9 @@ mod laws;
 mod reduced;
 mod reducing;
 
-pub use laws::{acyclic_is_decided, acyclic_works_stay_ranked, next_uses_are_one, sound_acyclic_works_go_on, uses_keep};
+pub use laws::{
+    acyclic_is_decided, acyclic_works_stay_ranked, next_uses_are_one, passed_atoms_never_hinder,
+    sound_acyclic_works_go_on, uses_keep,
+};
 pub use reduced::Reduced;
 pub use reducing::reduce;

@@ -1,52 +1,26 @@
 -- Of an acyclic diagram one atom is left exactly where it is sound.
-use Rattle.std.proofs.Common.{◌≡◌, inl, inr, ⊎_elim, ℕ, ◌<◌, ◌==◌, ◌&&◌, false, not, List, length, Some, IsTrue, sym, subst, ap, ◌∙◌, arith, eq-eqb, eqb-true}
-use Rattle.std.proofs.lemmas.Bool.{and_from, and_parts, false_from_ne_true, not_from_false, true≢false}
-use Rattle.std.specs.Option.{option_map_or}
-use Rattle.nego_base.specs.Members.{is_in}
-use Rattle.nego_base.proofs.Members.{some_member}
+use Rattle.std.proofs.Common.{◌≡◌, inl, inr, ⊎_elim, ℕ, ◌<◌, ◌==◌, ◌&&◌, false, not, List, length, IsTrue, sym, subst, ◌∙◌, arith, eq-eqb, eqb-true}
+use Rattle.std.proofs.lemmas.Bool.{and_from, and_parts, not_from_false, true≢false}
 use Rattle.nego_model.specs.Occurring.{IsSound}
 use Rattle.nego_model.specs.Acyclic.{IsRankedBy}
 use Rattle.nego_model.proofs.completeness.Ranks.{order-ranks}
-use Rattle.nego_expr.specs.Work.{WorkOutcome, PlainWork, IsWork, outcome_at, outcomes_at, negotiation_of_work}
-use Rattle.nego_expr.specs.Use.{Shortcut, Close, enters, allows}
+use Rattle.nego_expr.specs.Work.{PlainWork, IsWork, outcomes_at, negotiation_of_work}
+use Rattle.nego_expr.specs.Use.{Shortcut, Close, allows}
 use Rattle.nego_expr.specs.Lead.{Allowed}
 use Rattle.nego_expr.specs.StandsFor.{StandsFor}
-use Rattle.nego_expr.proofs.EditCalls.{allowed_at, found_itself}
 use Rattle.nego_expr.proofs.FreshWorks.{fresh_works, has_form}
 use Rattle.nego_expr.proofs.Leading.{Lead-weaker, leading_stands}
 use Rattle.nego_expr.proofs.OneAtomLeft.{one_atom_works}
-use Rattle.nego_expr.proofs.WorkEdits.{All-found}
-use Rattle.nego_shortcut.proofs.ShortWorks.{IsEntry, entry_from}
 use Rattle.nego_reduce.specs.Order.{IsNextUse, HasNoMerge, HasNoShortcut, has_passed}
 use Rattle.nego_reduce.specs.Laws.{AcyclicIsDecided, GoesOn, SoundAcyclicWorksGoOn}
 use Rattle.nego_reduce.proofs.NextUses.{next_allowed}
 use Rattle.nego_reduce.proofs.UsesLead.{uses_keep}
-use Rattle.nego_reduce.proofs.complete.AcyclicWorks.{acyclic_works}
-use Rattle.nego_reduce.proofs.complete.GoingForward.{GoesForward, IsForward, forward-ranked, ranked_iterates_none}
+use Rattle.nego_reduce.proofs.complete.AcyclicWorks.{not_passed, acyclic_works}
+use Rattle.nego_reduce.proofs.complete.GoingForward.{IsForward, forward-ranked, ranked_iterates_none}
 use Rattle.nego_reduce.proofs.complete.LeastUses.{least_merge, some_shortcut, none_left}
 use Rattle.nego_reduce.proofs.complete.ReducedWorks.{one_or_closing}
 
--- ---- what was passed
-
--- an outcome that goes forward has passed no atom that it enters
-not_passed : (order : List ℕ) (work : PlainWork) (o n : ℕ) → IsWork work → IsForward order work → IsTrue (allows work (Shortcut o n)) → has_passed work o n ≡ false
-not_passed order work o n ok forward allowed =
-    ap (λ found. option_map_or (λ z. is_in n z.passed) found false) k.1
-    ∙ false_from_ne_true (is_in n k.0.passed) (λ h. let up = goes.passed n a.0 n h a.1 (entry.sends a.0 a.1) in let no_more : ⊥ = omega (arith, up) in no_more)
-  where
-    k : (x : WorkOutcome) × (outcome_at work o ≡ Some x) × IsTrue (enters work x n)
-    k = allowed_at (λ x. enters work x n) (outcome_at work o) allowed
-
-    entry : IsEntry work k.0 n
-    entry = entry_from work k.0 n (found_itself work o k.0 k.1) k.2
-
-    goes : GoesForward order work.atoms k.0
-    goes = All-found (GoesForward order work.atoms) work.outcomes o k.0 forward.outcomes k.1
-
-    a : (a : ℕ) × IsTrue (is_in a ((negotiation_of_work work).parties n))
-    a = some_member ((negotiation_of_work work).parties n) (ok.form.some_party n entry.there)
-
--- so a shortcut into an atom of one outcome is one that the order takes
+-- where outcomes go forward, a shortcut into an atom of one outcome is one that the order takes
 no_shortcut_left : (order : List ℕ) (work : PlainWork) → IsWork work → IsForward order work → HasNoShortcut work → (o n : ℕ) → IsTrue (allows work (Shortcut o n)) → length (outcomes_at work n) ≡ 1 → ⊥
 no_shortcut_left order work ok forward none o n allowed one =
     true≢false (sym (and_from (allows work (Shortcut o n)) ((length (outcomes_at work n) == 1) && not (has_passed work o n)) allowed
