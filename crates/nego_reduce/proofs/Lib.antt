@@ -1,3 +1,4 @@
 pub mod NextUses
 pub mod UsesLead
 pub mod complete
+pub mod bound

@@ -1,5 +1,5 @@
 -- How many uses the order makes at most.
-use Rattle.std.specs.Prelude.{ℕ, ◌≤◌, ◌+◌, ◌-◌, ◌*◌, Bool, true, false, List, length, filter}
+use Rattle.std.specs.Prelude.{ℕ, ◌≤◌, ◌+◌, ◌-◌, ◌*◌, Bool, true, false, if◌then◌else◌, List, length, filter}
 use Rattle.nego_model.specs.Diagram.{PlainDiagram}
 use Rattle.nego_expr.specs.Use.{PlainUse, Merge, Iterate, Shortcut, Close}
 
@@ -26,6 +26,11 @@ pub record AreFew (diagram : PlainDiagram) (uses : List PlainUse) : Type 0 where
   pub taken_away : length (filter takes_away uses) ≤ length diagram.outcomes - 1
   pub closings : length (filter is_closing uses) ≤ 1
   pub all : length uses ≤ length diagram.outcomes * length diagram.atoms + length diagram.outcomes + 1
+
+-- how many nodes a use of an acyclic diagram makes, where there are so many final outcomes: a closing one for each of them,
+-- any other use one
+abbrev pub nodes_made_by : ℕ → PlainUse → ℕ
+nodes_made_by finals next = if is_closing next then finals else 1
 
 -- how many guards are tested at most for an acyclic diagram
 abbrev pub most_tests : PlainDiagram → ℕ

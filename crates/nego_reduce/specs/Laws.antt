@@ -1,24 +1,40 @@
 -- The laws of the order.
-use Rattle.std.specs.Prelude.{◌≡◌, ◌⊎◌, ◌↔◌, ℕ, ◌<◌, false, List, length, IsTrue}
+use Rattle.std.specs.Prelude.{◌≡◌, ◌⊎◌, ◌↔◌, ℕ, ◌<◌, ◌≤◌, ◌+◌, ◌-◌, ◌*◌, false, List, length, IsTrue}
+use Rattle.std.specs.List.{sum_by}
 use Rattle.nego_model.specs.Occurring.{IsSound}
 use Rattle.nego_model.specs.Acyclic.{IsAcyclic, IsForwardOrder, IsRankedBy}
 use Rattle.nego_model.specs.Diagram.{PlainDiagram, negotiation_of}
-use Rattle.nego_model.specs.Summary.{PlainSummary, Tells}
+use Rattle.nego_model.specs.Summary.{PlainSummary, Tells, final_outcomes}
 use Rattle.nego_expr.specs.Work.{PlainWork, IsWork, outcomes_at, negotiation_of_work}
 use Rattle.nego_expr.specs.Use.{PlainUse, Merge, Shortcut, Close, allows}
 use Rattle.nego_expr.specs.Lead.{Lead}
 use Rattle.nego_expr.specs.StandsFor.{IsFresh}
 use Rattle.nego_reduce.specs.Order.{IsNextUse, HasNoIteration, HasNoNextUse, Reduces, has_passed}
-use Rattle.nego_reduce.specs.Bound.{AreFew}
+use Rattle.nego_reduce.specs.Bound.{AreFew, nodes_made_by}
 use Rattle.nego_reduce.specs.Reducing.{IsFull}
 
 -- The uses that are made of a fresh work are few.
 abbrev pub UsesAreFew : Type 0
 UsesAreFew = (diagram : PlainDiagram) (work end : PlainWork) (uses : List PlainUse) → IsFresh work diagram → Lead IsNextUse work uses end → AreFew diagram uses
 
+-- The alive outcomes are never more than the diagram's, and no outcome gets a number that none of these had.
+abbrev pub AliveAreOfTheDiagram : Type 0
+AliveAreOfTheDiagram = (diagram : PlainDiagram) (work end : PlainWork) (uses : List PlainUse) → IsFresh work diagram → Lead IsNextUse work uses end →
+    (length end.outcomes ≤ length diagram.outcomes) × (end.numbers ≡ length diagram.outcomes)
+
 -- The nodes of an acyclic diagram are never too many.
 abbrev pub AcyclicIsNeverFull : Type 0
 AcyclicIsNeverFull = (diagram : PlainDiagram) (work end : PlainWork) (uses : List PlainUse) → IsFresh work diagram → IsAcyclic (negotiation_of diagram) → Lead IsNextUse work uses end → ¬ IsFull end
+
+-- They are as many as its outcomes and what its uses make: the closing one for each final outcome, any other use one.
+abbrev pub AcyclicNodesAreCounted : Type 0
+AcyclicNodesAreCounted = (diagram : PlainDiagram) (work end : PlainWork) (uses : List PlainUse) → IsFresh work diagram → IsAcyclic (negotiation_of diagram) → Lead IsNextUse work uses end →
+    length end.nodes ≡ length diagram.outcomes + sum_by (nodes_made_by (length (final_outcomes diagram))) uses
+
+-- So they are few beside the atoms and the outcomes of the diagram.
+abbrev pub AcyclicNodesAreFew : Type 0
+AcyclicNodesAreFew = (diagram : PlainDiagram) (work end : PlainWork) (uses : List PlainUse) → IsFresh work diagram → IsAcyclic (negotiation_of diagram) → Lead IsNextUse work uses end →
+    length end.nodes ≤ length diagram.outcomes * (length diagram.atoms - 2) + 3 * length diagram.outcomes
 
 -- The works to which uses lead from the fresh work of an acyclic diagram are ranked by each forward order of the diagram, and
 -- allow no iteration.

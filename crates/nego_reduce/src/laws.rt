@@ -2,7 +2,7 @@
 
 ghost use Rattle.nego_reduce.specs.Order.{NextUsesAreOne};
 ghost use Rattle.nego_expr.specs.Keeps.{UsesKeep};
-ghost use Rattle.nego_reduce.specs.Laws.{AcyclicWorksStayRanked, PassedAtomsNeverHinder, AcyclicIsDecided, SoundAcyclicWorksGoOn};
+ghost use Rattle.nego_reduce.specs.Laws.{AcyclicWorksStayRanked, PassedAtomsNeverHinder, AcyclicIsDecided, SoundAcyclicWorksGoOn, UsesAreFew, AliveAreOfTheDiagram, AcyclicIsNeverFull, AcyclicNodesAreCounted, AcyclicNodesAreFew};
 
 /// A work has at most one next use, so that the uses of the order are determined.
 pub fn next_uses_are_one()
@@ -35,4 +35,28 @@ pub fn sound_acyclic_works_go_on()
 /// diagram is sound.
 pub fn acyclic_is_decided()
     ensures { AcyclicIsDecided }
+{}
+
+/// The uses that are made of the fresh work of a deterministic diagram, each the next one in its turn, are few. The diagram
+/// may be cyclic.
+pub fn uses_are_few()
+    ensures { UsesAreFew }
+{}
+
+/// The works to which uses lead from the fresh work of a deterministic diagram, each the next one in its turn, have no more
+/// alive outcomes than the diagram, and these have numbers of its outcomes.
+pub fn alive_are_of_the_diagram()
+    ensures { AliveAreOfTheDiagram }
+{}
+
+/// From the fresh work of an acyclic diagram the next use never makes more than 20,000 nodes.
+pub fn acyclic_is_never_full()
+    ensures { AcyclicIsNeverFull }
+{}
+
+/// The nodes that the order's uses leave, from the fresh work of an acyclic diagram: each use makes one, but for the closing,
+/// which makes one for each final outcome. So they are few.
+pub fn acyclic_nodes_are_counted()
+    ensures counted { AcyclicNodesAreCounted }
+    ensures few { AcyclicNodesAreFew }
 {}

@@ -6,8 +6,9 @@ mod reduced;
 mod reducing;
 
 pub use laws::{
-    acyclic_is_decided, acyclic_works_stay_ranked, next_uses_are_one, passed_atoms_never_hinder,
-    sound_acyclic_works_go_on, uses_keep,
+    acyclic_is_decided, acyclic_is_never_full, acyclic_nodes_are_counted,
+    acyclic_works_stay_ranked, alive_are_of_the_diagram, next_uses_are_one,
+    passed_atoms_never_hinder, sound_acyclic_works_go_on, uses_are_few, uses_keep,
 };
 pub use reduced::Reduced;
 pub use reducing::reduce;
