@@ -11,7 +11,9 @@ use nego_cli::Status;
 use run::{exit_code, run};
 use std::io;
 use std::io::BufReader;
+use std::marker::Brand;
 use std::process::ExitCode;
+use std::sync::ledger::Blank;
 use streams::{ReaderSource, WriterSink};
 use words::SystemArguments;
 
@@ -24,5 +26,12 @@ fn main(rt: HostRuntime) -> ExitCode {
     let mut source = ReaderSource::new(input);
     let mut out = WriterSink::new(io::writer(&rt));
     let mut err = WriterSink::new(io::writer(&stderr));
-    exit_code(run(rt.alloc(), &arguments, &mut source, &mut out, &mut err))
+    exit_code(run::<_, _, _, _, Brand>(
+        rt.alloc(),
+        &arguments,
+        &mut source,
+        &mut out,
+        &mut err,
+        Blank::new(1),
+    ))
 }

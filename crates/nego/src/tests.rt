@@ -10,6 +10,7 @@ mod refusals;
 mod rules;
 mod runs;
 mod shapes;
+mod verdicts;
 mod words;
 
 use answers::ANSWERS;
@@ -17,6 +18,7 @@ use calls::{BAD_WORDS, Call, answers};
 use refusals::{FAULTS, REFUSALS, lines_are_refused};
 use shapes::shapes_are_told;
 use std::test::Fail;
+use verdicts::{VERDICTS, hub_is_undecided};
 
 /// Words that are no command that is built.
 static NOT_BUILT: [&str; 9] = [
@@ -29,6 +31,10 @@ fn calls_over_memory(rt: HostRuntime) -> Result<(), Fail> {
     for (i, call) in ANSWERS.iter().enumerate() {
         answers(&rt, alloc, call, "answer", i)?;
     }
+    for (i, call) in VERDICTS.iter().enumerate() {
+        answers(&rt, alloc, call, "verdict", i)?;
+    }
+    hub_is_undecided(&rt, alloc)?;
     for (i, call) in REFUSALS.iter().enumerate() {
         answers(&rt, alloc, call, "refusal", i)?;
     }

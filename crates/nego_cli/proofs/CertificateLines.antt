@@ -1,24 +1,30 @@
--- The lines of uses, appended to a text one by one, and the text that they are in.
-use Rattle.std.proofs.Common.{◌≡◌, ◌∙◌, ℕ, List, [], ◌∷◌, ◌++◌, ap, refl, append_assoc}
-use Rattle.std.specs.Prelude.{codes, decimal}
+-- The lines of uses and of atoms that are left, appended to a text one by one.
+use Rattle.std.proofs.Common.{◌≡◌, ◌∙◌, ℕ, Bool, true, false, if◌then◌else◌, List, [], ◌∷◌, ◌++◌, ap, refl, sym}
+use Rattle.nego_base.specs.Members.{is_in}
+use Rattle.nego_model.specs.Diagram.{PlainDiagram}
 use Rattle.nego_expr.specs.Use.{PlainUse}
-use Rattle.nego_base.specs.Appending.{Appends}
-use Rattle.nego_cli.specs.Certificate.{use_line, use_lines, certificate_text, sound_line}
+use Rattle.nego_cli.specs.Certificate.{use_line, use_lines, left_line, left_among}
 
 -- the lines of uses and of one more
 pub use_lines-more : (uses : List PlainUse) (last : PlainUse) (rest : List ℕ) → use_lines (uses ++ last ∷ []) rest ≡ use_lines uses (use_line last rest)
 use_lines-more [] last rest = refl
 use_lines-more (first ∷ uses) last rest = ap (use_line first) (use_lines-more uses last rest)
 
--- the text that grows by the lines of the uses, the line `end`, the verdict and the summary
-pub printed : (uses : List PlainUse) (count : ℕ) (summary head lines closed counted verdict whole : List ℕ) → head ≡ codes "certificate 1\n" → Appends head lines (use_lines uses) → closed ≡ lines ++ codes "end\n" →
-    Appends closed counted (λ rest. codes "sound uses " ++ (decimal count ++ rest)) → verdict ≡ counted ++ codes "\n" → whole ≡ verdict ++ summary → whole ≡ certificate_text uses ++ (sound_line count ++ summary)
-printed uses count summary head lines closed counted verdict whole head_is adds closed_is counts verdict_is whole_is =
-    let front : closed ≡ certificate_text uses = closed_is ∙ (adds (codes "end\n") ∙ ap (λ t. t ++ use_lines uses (codes "end\n")) head_is) in
-    let behind : decimal count ++ (codes "\n" ++ summary) ≡ (decimal count ++ codes "\n") ++ summary = simp append_assoc refl in
-    whole_is
-    ∙ (ap (λ t. t ++ summary) verdict_is
-    ∙ (append_assoc counted (codes "\n") summary
-    ∙ (counts (codes "\n" ++ summary)
-    ∙ (ap (λ t. t ++ (codes "sound uses " ++ (decimal count ++ (codes "\n" ++ summary)))) front
-    ∙ ap (λ t. certificate_text uses ++ (codes "sound uses " ++ t)) behind))))
+either : (b : Bool) (x y x' y' : List ℕ) → x ≡ x' → y ≡ y' → (if b then x else y) ≡ (if b then x' else y')
+either true x y x' y' e f = e
+either false x y x' y' e f = f
+
+-- the lines of the atoms among some and one more
+pub left_among-more : (d : PlainDiagram) (left ns : List ℕ) (n : ℕ) (rest : List ℕ) → left_among d left (ns ++ n ∷ []) rest ≡ left_among d left ns (left_among d left (n ∷ []) rest)
+left_among-more d left [] n rest = refl
+left_among-more d left (m ∷ ns) n rest =
+    let behind = left_among-more d left ns n rest in
+    either (is_in m left) (left_line d m (left_among d left (ns ++ n ∷ []) rest)) (left_among d left (ns ++ n ∷ []) rest)
+    (left_line d m (left_among d left ns (left_among d left (n ∷ []) rest))) (left_among d left ns (left_among d left (n ∷ []) rest)) (ap (left_line d m) behind) behind
+
+-- the line of one atom
+pub left_here : (d : PlainDiagram) (left : List ℕ) (n : ℕ) (rest : List ℕ) → is_in n left ≡ true → left_among d left (n ∷ []) rest ≡ left_line d n rest
+left_here d left n rest is = ap (λ b. if b then left_line d n rest else rest) is
+
+pub left_away : (d : PlainDiagram) (left : List ℕ) (n : ℕ) (rest : List ℕ) → is_in n left ≡ false → left_among d left (n ∷ []) rest ≡ rest
+left_away d left n rest is = ap (λ b. if b then left_line d n rest else rest) is

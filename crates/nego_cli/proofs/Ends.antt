@@ -1,5 +1,6 @@
 -- How a call ends: what its status says, and that each cause has its answer.
 use Rattle.std.proofs.Common.{◌≡◌, ◌⊎◌, ◌∙◌, inl, inr, ℕ, ◌<◌, List, [], length, Some, None, Result, Ok, Err, refl, sym, ap, subst, arith}
+use Rattle.std.specs.Option.{option_map_or}
 use Rattle.std.proofs.lemmas.Option.{same_Some}
 use Rattle.nego_io.specs.Outside.{WhereTold}
 use Rattle.nego_io.proofs.OutsideLaws.{told_so}
@@ -10,14 +11,15 @@ use Rattle.nego_cli.specs.declared.failure.Failure.TheVariants as failures
 use Rattle.nego_cli.specs.declared.failure.Refusal.{Refusal}
 use Rattle.nego_cli.specs.declared.status.Status.{Status}
 use Rattle.nego_cli.specs.declared.status.Status.TheVariants as statuses
+use Rattle.nego_cli.specs.Status.{IsTelling}
 use Rattle.nego_cli.specs.Effect.{Effect, HasFaulted, Put}
 use Rattle.nego_cli.specs.Parts.{Read, Reads, reads_at, HasRead, TakesParts, TookParts}
 use Rattle.nego_cli.specs.Turn.{Turn, TellsText, Refuses}
 use Rattle.nego_cli.specs.Commands.{TurnOf, TextOf, asked, Asks, most_parts}
 use Rattle.nego_cli.specs.Delivery.{IsDelivered, IsLinePut}
-use Rattle.nego_cli.specs.Answer.{failure_line, failure_status, IsTold, IsRefused, HasFailed, IsFound, Says, ShowsLine, ShowsText, FailsToRead}
-use Rattle.nego_cli.proofs.Loaded.{took_one}
-use Rattle.nego_cli.proofs.Turns.{one_read, one_turn, text_done}
+use Rattle.nego_cli.specs.Answer.{failure_line, failure_status, IsTold, IsRefused, HasFailed, IsFound, TextStands, Says, ShowsLine, ShowsText, FailsToRead}
+use Rattle.nego_cli.proofs.PartLaws.{took_parts}
+use Rattle.nego_cli.proofs.Turns.{parts_within, one_turn, text_telling}
 
 -- ---- what each status says
 
@@ -36,14 +38,25 @@ line_said words source out err failure status cause nothing (inr (is, front)) = 
 -- a refusal for whose line there was no memory
 refused_starved : (words : List (List ℕ)) (source : Effect) (why : Refusal) → IsRefused words source why → HasFailed words source failures.Memory
 refused_starved words source why h =
-    let one = one_read h.command h.reads (Refuses why) h.turn in
-    let count : most_parts (asked words) ≡ 1 = ap most_parts h.asks ∙ (let parts = one.1 in cc) in
-    (h.read.0, subst (λ n. TookParts n source) (sym count) (took_one one.0.0 source (subst (λ reads. HasRead reads source) one.0.1 h.read)))
+    let within = parts_within h.command h.reads (Refuses why) h.turn in
+    let count : most_parts (asked words) ≡ within.0 = ap most_parts h.asks ∙ ap (λ parts. option_map_or (λ n. n) parts 0) within.1 in
+    (h.read.0, subst (λ n. TookParts n source) (sym count) (took_parts within.0 h.reads source within.2 h.read))
+
+-- a text with its cause was put
+text_stands : (words : List (List ℕ)) (source out err : Effect) (status : Status) → IsTelling status → TextStands words source out err status → Says words source out err status
+text_stands words source out err statuses.Done telling h = h
+text_stands words source out err statuses.No telling h = h
+text_stands words source out err statuses.Undecided telling h = h
+text_stands words source out err statuses.Words telling h = absurd telling
+text_stands words source out err statuses.Refused telling h = absurd telling
+text_stands words source out err statuses.ReadFault telling h = absurd telling
+text_stands words source out err statuses.WriteFault telling h = absurd telling
+text_stands words source out err statuses.Memory telling h = absurd telling
 
 pub what_is_said : (words : List (List ℕ)) (source out err : Effect) (r : Result Answer Failure) (status : Status) → IsFound words source r → IsDelivered r out err status → Says words source out err status
 what_is_said words source out err (Ok answer) status told (inl (is, put, nothing)) =
-    let done : answer.status ≡ statuses.Done = text_done told.command told.reads answer.status answer.text told.told in
-    subst (Says words source out err) (sym (is ∙ done)) (answer.text, subst (λ s. IsTold words source s answer.text) done told, put, nothing)
+    let telling = text_telling told.command told.reads answer.status answer.text told.told in
+    subst (Says words source out err) (sym is) (text_stands words source out err answer.status telling (answer.text, told, put, nothing))
 what_is_said words source out err (Ok answer) status told (inr (is, front, tried)) = subst (Says words source out err) (sym is) (inl (answer.status, answer.text, told, front, tried))
 what_is_said words source out err (Err failures.Words) status cause (nothing, put) = line_said words source out err failures.Words status cause nothing put
 what_is_said words source out err (Err (failures.Refused why)) status cause (nothing, inl put) = line_said words source out err (failures.Refused why) status cause nothing put
@@ -93,7 +106,7 @@ IsRefusalShown words source out err status input _ = (command : Command) (n : �
     ShowsLine (failures.Refused why) out err status ⊎ FailsToRead source status
 
 -- and where a text has its cause
-abbrev IsTextShown : List (List ℕ) → Effect → Effect → Effect → Status → List ℕ → List ℕ → Type 0
+abbrev pub IsTextShown : List (List ℕ) → Effect → Effect → Effect → Status → List ℕ → List ℕ → Type 0
 IsTextShown words source out err status input _ = (command : Command) (n : ℕ) → Asks words command → TurnOf command (reads_at n input) TellsText →
     ShowsText command (reads_at n input) out err status ⊎ FailsToRead source status
 

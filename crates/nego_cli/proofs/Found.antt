@@ -1,9 +1,9 @@
 -- The answer of the command that words say is the answer to the words.
-use Rattle.std.proofs.Common.{◌≡◌, ◌∙◌, ℕ, ◌<◌, List, Some, Result, Ok, Err, refl, sym, ap, subst}
+use Rattle.std.proofs.Common.{◌≡◌, ◌∙◌, ℕ, ◌<◌, List, Option, Some, None, Result, Ok, Err, refl, sym, ap, subst}
 use Rattle.std.specs.Prelude.{IfErr, option_and_then}
+use Rattle.std.specs.Option.{option_map_or}
 use Rattle.nego_cli.specs.declared.answer.Answer.{Answer}
 use Rattle.nego_cli.specs.declared.command.Command.{Command}
-use Rattle.nego_cli.specs.declared.command.Command.TheVariants as commands
 use Rattle.nego_cli.specs.declared.failure.Failure.{Failure}
 use Rattle.nego_cli.specs.declared.failure.Failure.TheVariants as failures
 use Rattle.nego_cli.specs.Effect.{Effect}
@@ -14,30 +14,27 @@ use Rattle.nego_cli.specs.Commands.{parts_of, built, asked, Asks, most_parts}
 use Rattle.nego_cli.specs.Dispatch.{IsAnswer}
 use Rattle.nego_cli.specs.Delivery.{FailureIsNamed}
 use Rattle.nego_cli.specs.Answer.{IsFound}
-use Rattle.nego_cli.proofs.Turns.{one_read, turn_named}
+use Rattle.nego_cli.proofs.Turns.{parts_within, turn_named}
 
-asks_so : (words : List (List ℕ)) (command : Command) → command_of words ≡ Some command → parts_of command ≡ Some 1 → Asks words command
-asks_so words command is one = ap (option_and_then built) is ∙ ap (option_and_then (λ _. Some command)) one
+asks_so : (words : List (List ℕ)) (command : Command) (most : ℕ) → command_of words ≡ Some command → parts_of command ≡ Some most → Asks words command
+asks_so words command most is parts = ap (option_and_then built) is ∙ ap (option_and_then (λ _. Some command)) parts
 
 -- a command that isn't built reads no part
-built_most : (command : Command) → most_parts (built command) ≡ most_parts (Some command)
-built_most commands.Check = refl
-built_most commands.Reduce = refl
-built_most commands.Replay = refl
-built_most (commands.Ask starts) = refl
-built_most (commands.Run starts) = refl
-built_most (commands.Node seed turns starts) = refl
-built_most (commands.Make n) = refl
+built_most : (command : Command) (parts : Option ℕ) → parts_of command ≡ parts → most_parts (built command) ≡ most_parts (Some command)
+built_most command (Some most) is = ap most_parts (ap (option_and_then (λ _. Some command)) is)
+built_most command None is = ap most_parts (ap (option_and_then (λ _. Some command)) is) ∙ sym (ap (λ parts. option_map_or (λ n. n) parts 0) is)
 
 most_so : (words : List (List ℕ)) (command : Command) → command_of words ≡ Some command → most_parts (Some command) ≡ most_parts (asked words)
-most_so words command is = sym (ap (λ c. most_parts (option_and_then built c)) is ∙ built_most command)
+most_so words command is = sym (ap (λ c. most_parts (option_and_then built c)) is ∙ built_most command (parts_of command) refl)
 
 pub found_so : (words : List (List ℕ)) (command : Command) (source : Effect) (r : Result Answer Failure) → command_of words ≡ Some command → IsAnswer command source r → IsFound words source r
 found_so words command source (Ok answer) is (reads, read, turn, told) =
-    record { command = command; reads = reads; asks = asks_so words command is (one_read command reads TellsText turn).1; read = read; turn = turn; told = told }
+    let within = parts_within command reads TellsText turn in
+    record { command = command; reads = reads; asks = asks_so words command within.0 is within.1; read = read; turn = turn; told = told }
 found_so words command source (Err failures.Words) is (none, read) = (ap (option_and_then built) is ∙ ap (option_and_then (λ _. Some command)) none, read)
 found_so words command source (Err (failures.Refused why)) is (reads, read, turn) =
-    record { command = command; reads = reads; asks = asks_so words command is (one_read command reads (Refuses why) turn).1; read = read; turn = turn }
+    let within = parts_within command reads (Refuses why) turn in
+    record { command = command; reads = reads; asks = asks_so words command within.0 is within.1; read = read; turn = turn }
 found_so words command source (Err failures.ReadFault) is (reads, failed, took) =
     (subst (λ n. 0 < n) (most_so words command is) reads, failed, subst (λ n. TookParts n source) (most_so words command is) took)
 found_so words command source (Err failures.Memory) is (stayed, took) = (stayed, subst (λ n. TookParts n source) (most_so words command is) took)

@@ -1,5 +1,5 @@
--- How commands end: behind one part, in one way.
-use Rattle.std.proofs.Common.{◌≡◌, ◌∙◌, ⊎_elim, inl, inr, ℕ, zero, suc, ◌<◌, ◌≤◌, List, [], ◌∷◌, length, Some, Result, Ok, Err, refl, sym, ap, ap₂, subst, arith}
+-- How commands end: in one way, behind as many parts as the table of parts says at most.
+use Rattle.std.proofs.Common.{◌≡◌, ◌∙◌, ⊎_elim, inl, inr, ℕ, suc, ◌+◌, ◌-◌, ◌<◌, ◌≤◌, List, [], ◌∷◌, ◌++◌, length, Some, Result, Ok, Err, refl, sym, ap, ap₂, subst, arith}
 use Rattle.std.specs.Prelude.{IfOk, IfErr}
 use Rattle.std.proofs.lemmas.Bool.{cases_lt}
 use Rattle.nego_base.specs.declared.ids.AgentId.{AgentId}
@@ -7,10 +7,7 @@ use Rattle.nego_base.specs.declared.ids.OutcomeId.{OutcomeId}
 use Rattle.nego_model.specs.Diagram.{PlainDiagram, IsDiagram, nexts_of}
 use Rattle.nego_model.specs.Undetermined.{IsFirstUndetermined}
 use Rattle.nego_model.proofs.diagrams.Undetermined.{undetermined}
-use Rattle.nego_reader.specs.Content.{content_of}
-use Rattle.nego_shape.proofs.ShapedDiagrams.{shaped-diagram}
-use Rattle.nego_shape.proofs.SoundShape.{sound_shape}
-use Rattle.nego_io.specs.Part.{behind}
+use Rattle.nego_reduce.specs.Order.{IsPairBelow}
 use Rattle.nego_cli.specs.declared.answer.Answer.{Answer}
 use Rattle.nego_cli.specs.declared.command.Command.{Command}
 use Rattle.nego_cli.specs.declared.command.Command.TheVariants as commands
@@ -19,18 +16,21 @@ use Rattle.nego_cli.specs.declared.failure.Failure.TheVariants as failures
 use Rattle.nego_cli.specs.declared.failure.Refusal.{Refusal}
 use Rattle.nego_cli.specs.declared.failure.Refusal.TheVariants as refusals
 use Rattle.nego_cli.specs.declared.status.Status.{Status}
-use Rattle.nego_cli.specs.declared.status.Status.TheVariants as statuses
-use Rattle.nego_cli.specs.Order.{IsPairBelow}
+use Rattle.nego_cli.specs.declared.verdict.Verdict.{Verdict}
+use Rattle.nego_cli.specs.declared.verdict.Verdict.TheVariants as verdicts
 use Rattle.nego_cli.specs.Effect.{Effect}
-use Rattle.nego_cli.specs.Parts.{Read, ReadPart, ReadTooLong, ReadNoEnd, part_limit, reads_at}
-use Rattle.nego_cli.specs.Loading.{SpellsDiagram, IsNoDiagram, HasLoaded}
-use Rattle.nego_cli.specs.Turn.{Turn, TellsText, Refuses, TurnOverDiagram}
+use Rattle.nego_cli.specs.Parts.{Read, ReadPart, ReadTooLong, ReadNoEnd, reads_at, behind_parts, TookParts}
+use Rattle.nego_cli.specs.Loading.{SpellsDiagram, IsNoDiagram, IsDiagramOf, HasValue}
+use Rattle.nego_cli.specs.Turn.{Turn, TellsText, Refuses, TurnOver, TextOver, TurnOverDiagram, TextOverDiagram}
 use Rattle.nego_cli.specs.Check.{CheckTurn, CheckText}
-use Rattle.nego_cli.specs.Reduce.{ReduceTurn, ReduceText, IsNotReduced, HasNotReduced}
-use Rattle.nego_cli.specs.Commands.{TurnOf, TextOf, parts_of}
+use Rattle.nego_cli.specs.Reduce.{ReduceTurn, ReduceText, IsUndetermined}
+use Rattle.nego_cli.specs.Verdict.{verdict_status}
+use Rattle.nego_cli.specs.Status.{IsTelling}
+use Rattle.nego_cli.specs.Commands.{TurnOf, TextOf, parts_of, most_parts}
 use Rattle.nego_cli.specs.Refusals.{IsNamed}
-use Rattle.nego_cli.specs.Dispatch.{IsAnswer}
-use Rattle.nego_cli.proofs.Loaded.{took_one, one_diagram, no_diagram_not, no_diagram_once, no_diagram_named}
+use Rattle.nego_cli.specs.Dispatch.{IsAnswer, HasNoText}
+use Rattle.nego_cli.proofs.PartLaws.{length_reads, reads_more, took_parts}
+use Rattle.nego_cli.proofs.Loaded.{IsKind, diagrams, spelled_diagram}
 
 -- ---- the first place with two next atoms
 
@@ -53,159 +53,200 @@ first_once d o a p b first other =
     let outcome : o ≡ p = neither_below o p (λ l. not_behind d o a p b first other (inl l)) (λ l. not_behind d p b o a other first (inl l)) in
     (outcome, neither_below a b (λ l. not_behind d o a p b first other (inr (outcome, l))) (λ l. not_behind d p b o a other first (inr (sym outcome, l))))
 
-undetermined_once : (d : PlainDiagram) (o p : OutcomeId) (a b : AgentId) → (o.0 ≡ p.0) × (a.0 ≡ b.0) → refusals.Undetermined d o a ≡ refusals.Undetermined d p b
-undetermined_once d o p a b same =
+undetermined_same : (d : PlainDiagram) (o p : OutcomeId) (a b : AgentId) → (o.0 ≡ p.0) × (a.0 ≡ b.0) → refusals.Undetermined d o a ≡ refusals.Undetermined d p b
+undetermined_same d o p a b same =
     let outcome : o ≡ p = ap (λ (n : ℕ). record { 0 = n }) same.0 in
     let agent : a ≡ b = ap (λ (n : ℕ). record { 0 = n }) same.1 in
     ap₂ (refusals.Undetermined d) outcome agent
 
--- ---- over a diagram
+-- why a diagram isn't deterministic is one
+undetermined_once : (d : PlainDiagram) (why other : Refusal) → IsUndetermined d why → IsUndetermined d other → why ≡ other
+undetermined_once d why other (o, a, is, first) (p, b, is', first') = is ∙ (undetermined_same d o p a b (first_once d o.0 a.0 p.0 b.0 first first') ∙ sym is')
 
--- a command over a diagram reads one part
-over_one : (does : PlainDiagram → List Read → Turn → Type 0) → ((d : PlainDiagram) (reads : List Read) (turn : Turn) → does d reads turn → reads ≡ []) →
-    (reads : List Read) (turn : Turn) → TurnOverDiagram does reads turn → (read : Read) × (reads ≡ read ∷ [])
-over_one does alone [] turn h = absurd h
-over_one does alone (read ∷ reads) turn (inl (why, is, none, bad)) = (read, ap (λ rest. read ∷ rest) none)
-over_one does alone (read ∷ reads) turn (inr (text, d, is, spelled, done)) = (read, ap (λ rest. read ∷ rest) (alone d reads turn done))
+undetermined_named : (d : PlainDiagram) (why : Refusal) → IsUndetermined d why → IsNamed why
+undetermined_named d why (o, a, is, first) = subst IsNamed (sym is) (first.outcome, first.agent)
 
--- what is no diagram is none
-not_both : (read : Read) (why : Refusal) (text : List ℕ) (d : PlainDiagram) → IsNoDiagram read why → read ≡ ReadPart text → SpellsDiagram text d → ⊥
-not_both read why text d bad is spelled = no_diagram_not text why d (subst (λ r. IsNoDiagram r why) is bad) spelled
+-- ---- ways to end
 
--- and ends in one way
-over_once : (does : PlainDiagram → List Read → Turn → Type 0) → ((d : PlainDiagram) → IsDiagram d → (turn other : Turn) → does d [] turn → does d [] other → turn ≡ other) →
-    (read : Read) (turn other : Turn) → TurnOverDiagram does (read ∷ []) turn → TurnOverDiagram does (read ∷ []) other → turn ≡ other
-over_once does once read turn other (inl (why, is, none, bad)) (inl (why', is', none', bad')) = is ∙ (ap Refuses (no_diagram_once read why why' bad bad') ∙ sym is')
-over_once does once read turn other (inl (why, is, none, bad)) (inr (text, d, at, spelled, done)) = absurd (not_both read why text d bad at spelled)
-over_once does once read turn other (inr (text, d, at, spelled, done)) (inl (why, is, none, bad)) = absurd (not_both read why text d bad at spelled)
-over_once does once read turn other (inr (text, d, at, spelled, done)) (inr (text', e, at', spelled', done')) =
+-- Behind some parts and behind these and more the end is one, so that there are no more.
+abbrev EndsOnce : (List Read → Turn → Type 0) → Type 0
+EndsOnce ends = (reads more : List Read) (turn other : Turn) → ends reads turn → ends (reads ++ more) other → (more ≡ []) × (turn ≡ other)
+
+-- It ends behind so many parts at most.
+abbrev EndsWithin : ℕ → (List Read → Turn → Type 0) → Type 0
+EndsWithin most ends = (reads : List Read) (turn : Turn) → ends reads turn → length reads ≤ most
+
+-- What it names in a refusal is there.
+abbrev Names : (List Read → Turn → Type 0) → Type 0
+Names ends = (reads : List Read) (why : Refusal) → ends reads (Refuses why) → IsNamed why
+
+-- A text is told with a status of texts.
+abbrev Tells : (List Read → Status → List ℕ → Type 0) → Type 0
+Tells tells = (reads : List Read) (status : Status) (text : List ℕ) → tells reads status text → IsTelling status
+
+-- what ends behind nothing more
+none_more : (reads more : List Read) → reads ≡ [] → reads ++ more ≡ [] → more ≡ []
+none_more reads more none all = sym (ap (λ r. r ++ more) none) ∙ all
+
+-- ---- a command over a part
+
+over_once : {X : Type 0} (spells : List ℕ → X → Type 0) (is_none : Read → Refusal → Type 0) (does : X → List Read → Turn → Type 0) → IsKind spells is_none →
+    ((text : List ℕ) (x : X) → spells text x → EndsOnce (does x)) → EndsOnce (TurnOver spells is_none does)
+over_once spells is_none does kind once [] more turn other h k = absurd h
+over_once spells is_none does kind once (read ∷ reads) more turn other (inl (why, is, none, bad)) (inl (why', is', none', bad')) =
+    (none_more reads more none none', is ∙ (ap Refuses (kind.one_reason read why why' bad bad') ∙ sym is'))
+over_once spells is_none does kind once (read ∷ reads) more turn other (inl (why, is, none, bad)) (inr (text, x, at, spelled, done)) =
+    absurd (kind.not_both text why x (subst (λ r. is_none r why) at bad) spelled)
+over_once spells is_none does kind once (read ∷ reads) more turn other (inr (text, x, at, spelled, done)) (inl (why, is, none, bad)) =
+    absurd (kind.not_both text why x (subst (λ r. is_none r why) at bad) spelled)
+over_once spells is_none does kind once (read ∷ reads) more turn other (inr (text, x, at, spelled, done)) (inr (text', y, at', spelled', done')) =
     let here : ReadPart text ≡ ReadPart text' = sym at ∙ at' in
     let part : text ≡ text' = cc in
-    let same : e ≡ d = one_diagram text e d (subst (λ t. SpellsDiagram t e) (sym part) spelled') spelled in
-    let diagram : IsDiagram d = subst IsDiagram (sym spelled.is) (shaped-diagram (content_of spelled.value) (sound_shape spelled.value spelled.shaped)) in
-    once d diagram turn other done (subst (λ x. does x [] other) same done')
+    let same : y ≡ x = kind.one_value text y x (subst (λ t. spells t y) (sym part) spelled') spelled in
+    once text x spelled reads more turn other done (subst (λ z. does z (reads ++ more) other) same done')
+
+over_within : {X : Type 0} (spells : List ℕ → X → Type 0) (is_none : Read → Refusal → Type 0) (does : X → List Read → Turn → Type 0) (most : ℕ) →
+    ((x : X) → EndsWithin most (does x)) → EndsWithin (suc most) (TurnOver spells is_none does)
+over_within spells is_none does most within [] turn h = absurd h
+over_within spells is_none does most within (read ∷ reads) turn (inl (why, is, none, bad)) = let count = ap length none in omega (arith, count)
+over_within spells is_none does most within (read ∷ reads) turn (inr (text, x, at, spelled, done)) = let count = within x reads turn done in omega (arith, count)
+
+over_named : {X : Type 0} (spells : List ℕ → X → Type 0) (is_none : Read → Refusal → Type 0) (does : X → List Read → Turn → Type 0) → IsKind spells is_none →
+    ((x : X) → Names (does x)) → Names (TurnOver spells is_none does)
+over_named spells is_none does kind named [] why h = absurd h
+over_named spells is_none does kind named (read ∷ reads) why (inl (other, is, none, bad)) =
+    let same : why ≡ other = cc in
+    subst IsNamed (sym same) (kind.named read other bad)
+over_named spells is_none does kind named (read ∷ reads) why (inr (text, x, is, spelled, done)) = named x reads why done
+
+over_telling : {X : Type 0} (spells : List ℕ → X → Type 0) (tells : X → List Read → Status → List ℕ → Type 0) → ((x : X) → Tells (tells x)) → Tells (TextOver spells tells)
+over_telling spells tells telling [] status text h = absurd h
+over_telling spells tells telling (ReadPart part ∷ reads) status text (x, spelled, told) = telling x reads status text told
+over_telling spells tells telling (ReadTooLong ∷ reads) status text h = absurd h
+over_telling spells tells telling (ReadNoEnd line ∷ reads) status text h = absurd h
 
 -- ---- each command
 
-check_once : (d : PlainDiagram) → IsDiagram d → (turn other : Turn) → CheckTurn d [] turn → CheckTurn d [] other → turn ≡ other
-check_once d diagram turn other h k = h.0 ∙ sym k.0
+-- What is known of a command.
+record IsCommand (command : Command) : Type 0 where
+  once : EndsOnce (TurnOf command)
+  within : (reads : List Read) (turn : Turn) → TurnOf command reads turn → (most : ℕ) × (parts_of command ≡ Some most) × (length reads ≤ most)
+  named : Names (TurnOf command)
+  telling : Tells (TextOf command)
 
--- a diagram that is taken isn't refused
-reduced_not : (d : PlainDiagram) (why : Refusal) → IsDiagram d → ReduceTurn d [] TellsText → IsNotReduced d why → ⊥
-reduced_not d why diagram h (inl (o, a, is, first)) = undetermined d diagram o.0 a.0 first.outcome first.two h.0
-reduced_not d why diagram h (inr (is, determined, wide)) = wide h.1
+check_once : (d : PlainDiagram) → EndsOnce (CheckTurn d)
+check_once d reads more turn other h k = (none_more reads more h.1 k.1, h.0 ∙ sym k.0)
 
--- and the reason is one
-not_reduced_once : (d : PlainDiagram) (why other : Refusal) → IsDiagram d → IsNotReduced d why → IsNotReduced d other → why ≡ other
-not_reduced_once d why other diagram (inl (o, a, is, first)) (inl (p, b, is', first')) = is ∙ (undetermined_once d o p a b (first_once d o.0 a.0 p.0 b.0 first first') ∙ sym is')
-not_reduced_once d why other diagram (inl (o, a, is, first)) (inr (is', determined, wide)) = absurd (undetermined d diagram o.0 a.0 first.outcome first.two determined)
-not_reduced_once d why other diagram (inr (is', determined, wide)) (inl (o, a, is, first)) = absurd (undetermined d diagram o.0 a.0 first.outcome first.two determined)
-not_reduced_once d why other diagram (inr (is, determined, wide)) (inr (is', determined', wide')) = is ∙ sym is'
+check_within : (d : PlainDiagram) → EndsWithin 0 (CheckTurn d)
+check_within d reads turn h = let count = ap length h.1 in omega (arith, count)
 
-reduce_once : (d : PlainDiagram) → IsDiagram d → (turn other : Turn) → ReduceTurn d [] turn → ReduceTurn d [] other → turn ≡ other
-reduce_once d diagram TellsText TellsText h k = refl
-reduce_once d diagram TellsText (Refuses why) h k = absurd (reduced_not d why diagram h k.0)
-reduce_once d diagram (Refuses why) TellsText h k = absurd (reduced_not d why diagram k h.0)
-reduce_once d diagram (Refuses why) (Refuses other) h k = ap Refuses (not_reduced_once d why other diagram h.0 k.0)
+check_named : (d : PlainDiagram) → Names (CheckTurn d)
+check_named d reads why h = let never : Refuses why ≡ TellsText = h.0 in cc
 
-reduce_alone : (d : PlainDiagram) (reads : List Read) (turn : Turn) → ReduceTurn d reads turn → reads ≡ []
-reduce_alone d reads TellsText h = h.2
-reduce_alone d reads (Refuses why) h = h.1
+check_telling : (d : PlainDiagram) → Tells (CheckText d)
+check_telling d reads status text h = subst IsTelling (sym h.0) tt
 
--- ---- all commands
+reduce_once : (d : PlainDiagram) → IsDiagram d → EndsOnce (ReduceTurn d)
+reduce_once d diagram reads more TellsText TellsText h k = (none_more reads more h.1 k.1, refl)
+reduce_once d diagram reads more TellsText (Refuses why) h ((o, a, is, first), all) = absurd (undetermined d diagram o.0 a.0 first.outcome first.two h.0)
+reduce_once d diagram reads more (Refuses why) TellsText ((o, a, is, first), none) k = absurd (undetermined d diagram o.0 a.0 first.outcome first.two k.0)
+reduce_once d diagram reads more (Refuses why) (Refuses other) h k = (none_more reads more h.1 k.1, ap Refuses (undetermined_once d why other h.0 k.0))
 
--- each reads one part
-pub one_read : (command : Command) (reads : List Read) (turn : Turn) → TurnOf command reads turn → ((read : Read) × (reads ≡ read ∷ [])) × (parts_of command ≡ Some 1)
-one_read commands.Check reads turn h = (over_one CheckTurn (λ d reads turn done. done.1) reads turn h, refl)
-one_read commands.Reduce reads turn h = (over_one ReduceTurn reduce_alone reads turn h, refl)
-one_read commands.Replay reads turn h = absurd h
-one_read (commands.Ask starts) reads turn h = absurd h
-one_read (commands.Run starts) reads turn h = absurd h
-one_read (commands.Node seed turns starts) reads turn h = absurd h
-one_read (commands.Make n) reads turn h = absurd h
+reduce_within : (d : PlainDiagram) → EndsWithin 0 (ReduceTurn d)
+reduce_within d reads TellsText h = let count = ap length h.1 in omega (arith, count)
+reduce_within d reads (Refuses why) h = let count = ap length h.1 in omega (arith, count)
 
--- and ends in one way
-turn_once : (command : Command) (read : Read) (turn other : Turn) → TurnOf command (read ∷ []) turn → TurnOf command (read ∷ []) other → turn ≡ other
-turn_once commands.Check read turn other h k = over_once CheckTurn check_once read turn other h k
-turn_once commands.Reduce read turn other h k = over_once ReduceTurn reduce_once read turn other h k
-turn_once commands.Replay read turn other h k = absurd h
-turn_once (commands.Ask starts) read turn other h k = absurd h
-turn_once (commands.Run starts) read turn other h k = absurd h
-turn_once (commands.Node seed turns starts) read turn other h k = absurd h
-turn_once (commands.Make n) read turn other h k = absurd h
+verdict_telling : (verdict : Verdict) → IsTelling (verdict_status verdict)
+verdict_telling verdicts.Sound = tt
+verdict_telling verdicts.Unsound = tt
+verdict_telling verdicts.Stuck = tt
+verdict_telling verdicts.NodeLimit = tt
 
-length_reads : (n : ℕ) (input : List ℕ) → length (reads_at n input) ≡ n
-length_reads zero input = refl
-length_reads (suc n) input = ap suc (length_reads n (behind part_limit input))
+reduce_telling : (d : PlainDiagram) → Tells (ReduceText d)
+reduce_telling d reads status text h = subst IsTelling (sym h.status_is) (verdict_telling h.verdict)
 
--- over one input it ends behind the same parts, in one way
-pub one_turn : (command : Command) (input : List ℕ) (n m : ℕ) (turn other : Turn) → TurnOf command (reads_at n input) turn → TurnOf command (reads_at m input) other → (n ≡ m) × (turn ≡ other)
-one_turn command input n m turn other h k =
-    let first = (one_read command (reads_at n input) turn h).0 in
-    let second = (one_read command (reads_at m input) other k).0 in
-    let count : n ≡ 1 = sym (length_reads n input) ∙ ap length first.1 in
-    let same : n ≡ m = count ∙ (sym (ap length second.1) ∙ length_reads m input) in
-    let here : TurnOf command (first.0 ∷ []) turn = subst (λ reads. TurnOf command reads turn) first.1 h in
-    let there : TurnOf command (first.0 ∷ []) other = subst (λ reads. TurnOf command reads other) (ap (λ i. reads_at i input) (sym same) ∙ first.1) k in
-    (same, turn_once command first.0 turn other here there)
+-- a command that isn't built
+unbuilt : (command : Command) → ((reads : List Read) (turn : Turn) → TurnOf command reads turn → ⊥) → ((reads : List Read) (status : Status) (text : List ℕ) → TextOf command reads status text → ⊥) → IsCommand command
+unbuilt command no_turn no_text = record {
+  once = λ reads more turn other h k. absurd (no_turn reads turn h);
+  within = λ reads turn h. absurd (no_turn reads turn h);
+  named = λ reads why h. absurd (no_turn reads (Refuses why) h);
+  telling = λ reads status text h. absurd (no_text reads status text h);
+}
 
--- a text is told with status `Done`
-pub text_done : (command : Command) (reads : List Read) (status : Status) (text : List ℕ) → TextOf command reads status text → status ≡ statuses.Done
-text_done commands.Check (ReadPart part ∷ reads) status text (d, spelled, diagram, told) = told.0
-text_done commands.Check (ReadTooLong ∷ reads) status text h = absurd h
-text_done commands.Check (ReadNoEnd line ∷ reads) status text h = absurd h
-text_done commands.Check [] status text h = absurd h
-text_done commands.Reduce (ReadPart part ∷ reads) status text (d, spelled, diagram, told) = told.0
-text_done commands.Reduce (ReadTooLong ∷ reads) status text h = absurd h
-text_done commands.Reduce (ReadNoEnd line ∷ reads) status text h = absurd h
-text_done commands.Reduce [] status text h = absurd h
-text_done commands.Replay reads status text h = absurd h
-text_done (commands.Ask starts) reads status text h = absurd h
-text_done (commands.Run starts) reads status text h = absurd h
-text_done (commands.Node seed turns starts) reads status text h = absurd h
-text_done (commands.Make n) reads status text h = absurd h
+-- all commands
+known : (command : Command) → IsCommand command
+known commands.Check = record {
+  once = over_once SpellsDiagram IsNoDiagram CheckTurn diagrams (λ text d spelled. check_once d);
+  within = λ reads turn h. (1, refl, over_within SpellsDiagram IsNoDiagram CheckTurn 0 check_within reads turn h);
+  named = over_named SpellsDiagram IsNoDiagram CheckTurn diagrams check_named;
+  telling = over_telling IsDiagramOf CheckText check_telling;
+}
+known commands.Reduce = record {
+  once = over_once SpellsDiagram IsNoDiagram ReduceTurn diagrams (λ text d spelled. reduce_once d (spelled_diagram text d spelled));
+  within = λ reads turn h. (1, refl, over_within SpellsDiagram IsNoDiagram ReduceTurn 0 reduce_within reads turn h);
+  named = over_named SpellsDiagram IsNoDiagram ReduceTurn diagrams (λ d reads why h. undetermined_named d why h.0);
+  telling = over_telling IsDiagramOf ReduceText reduce_telling;
+}
+known commands.Replay = unbuilt commands.Replay (λ reads turn h. h) (λ reads status text h. h)
+known (commands.Ask starts) = unbuilt (commands.Ask starts) (λ reads turn h. h) (λ reads status text h. h)
+known (commands.Run starts) = unbuilt (commands.Run starts) (λ reads turn h. h) (λ reads status text h. h)
+known (commands.Node seed turns starts) = unbuilt (commands.Node seed turns starts) (λ reads turn h. h) (λ reads status text h. h)
+known (commands.Make n) = unbuilt (commands.Make n) (λ reads turn h. h) (λ reads status text h. h)
 
--- ---- what a refusal names
-
-over_named : (does : PlainDiagram → List Read → Turn → Type 0) → ((d : PlainDiagram) (reads : List Read) (why : Refusal) → does d reads (Refuses why) → IsNamed why) →
-    (reads : List Read) (why : Refusal) → TurnOverDiagram does reads (Refuses why) → IsNamed why
-over_named does named [] why h = absurd h
-over_named does named (read ∷ reads) why (inl (other, is, none, bad)) =
-    let same : why ≡ other = cc in
-    subst IsNamed (sym same) (no_diagram_named read other bad)
-over_named does named (read ∷ reads) why (inr (text, d, is, spelled, done)) = named d reads why done
-
-not_reduced_named : (d : PlainDiagram) (why : Refusal) → IsNotReduced d why → IsNamed why
-not_reduced_named d why (inl (o, a, is, first)) = subst IsNamed (sym is) (first.outcome, first.agent)
-not_reduced_named d why (inr (is, determined, wide)) = subst IsNamed (sym is) tt
+-- behind how many parts a command ends
+pub parts_within : (command : Command) (reads : List Read) (turn : Turn) → TurnOf command reads turn → (most : ℕ) × (parts_of command ≡ Some most) × (length reads ≤ most)
+parts_within command = (known command).within
 
 -- what a command names in a refusal is there
 pub turn_named : (command : Command) (reads : List Read) (why : Refusal) → TurnOf command reads (Refuses why) → IsNamed why
-turn_named commands.Check reads why h =
-    over_named CheckTurn (λ d reads why done. (let never : Refuses why ≡ TellsText = done.0 in cc)) reads why h
-turn_named commands.Reduce reads why h = over_named ReduceTurn (λ d reads why done. not_reduced_named d why done.0) reads why h
-turn_named commands.Replay reads why h = absurd h
-turn_named (commands.Ask starts) reads why h = absurd h
-turn_named (commands.Run starts) reads why h = absurd h
-turn_named (commands.Node seed turns starts) reads why h = absurd h
-turn_named (commands.Make n) reads why h = absurd h
+turn_named command = (known command).named
 
--- ---- the answers of commands over a diagram
+-- a text is told with a status of texts
+pub text_telling : (command : Command) (reads : List Read) (status : Status) (text : List ℕ) → TextOf command reads status text → IsTelling status
+text_telling command = (known command).telling
 
-pub checked : (source : Effect) (d : PlainDiagram) (r : Result Answer Failure) → HasLoaded source d → IfOk r (λ answer. CheckText d [] answer.status answer.text) → IfErr r (λ e. e ≡ failures.Memory) →
-    IsAnswer commands.Check source r
-checked source d (Ok answer) loaded told failed =
-    (ReadPart loaded.text ∷ [], loaded.read, inr (loaded.text, d, refl, loaded.spelled, (refl, refl)), (d, loaded.spelled, loaded.diagram, told))
-checked source d (Err failures.Memory) loaded told failed = (loaded.read.0, took_one (ReadPart loaded.text) source loaded.read)
-checked source d (Err failures.Words) loaded told failed = cc
-checked source d (Err failures.ReadFault) loaded told failed = cc
-checked source d (Err (failures.Refused why)) loaded told failed = cc
+-- ---- over one input
 
-pub reduced : (source : Effect) (d : PlainDiagram) (r : Result Answer Failure) → HasLoaded source d → IfOk r (λ _. ReduceTurn d [] TellsText) → IfOk r (λ answer. ReduceText d [] answer.status answer.text) →
-    IfErr r (HasNotReduced d) → IsAnswer commands.Reduce source r
-reduced source d (Ok answer) loaded turn told failed =
-    (ReadPart loaded.text ∷ [], loaded.read, inr (loaded.text, d, refl, loaded.spelled, turn), (d, loaded.spelled, loaded.diagram, told))
-reduced source d (Err (failures.Refused why)) loaded turn told failed = (ReadPart loaded.text ∷ [], loaded.read, inr (loaded.text, d, refl, loaded.spelled, (failed, refl)))
-reduced source d (Err failures.Memory) loaded turn told failed = (loaded.read.0, took_one (ReadPart loaded.text) source loaded.read)
-reduced source d (Err failures.Words) loaded turn told failed = absurd failed
-reduced source d (Err failures.ReadFault) loaded turn told failed = absurd failed
+-- a command that ends behind some parts doesn't end otherwise behind these and more
+turn_more : (command : Command) (input : List ℕ) (n k : ℕ) (turn other : Turn) → TurnOf command (reads_at n input) turn → TurnOf command (reads_at (n + k) input) other → (k ≡ 0) × (turn ≡ other)
+turn_more command input n k turn other h there =
+    let more = reads_at k (behind_parts n input) in
+    let both = (known command).once (reads_at n input) more turn other h (subst (λ reads. TurnOf command reads other) (reads_more n k input) there) in
+    (sym (length_reads k (behind_parts n input)) ∙ ap length both.0, both.1)
+
+turn_from : (command : Command) (input : List ℕ) (n m : ℕ) (turn other : Turn) → n ≤ m → TurnOf command (reads_at n input) turn → TurnOf command (reads_at m input) other → (n ≡ m) × (turn ≡ other)
+turn_from command input n m turn other from h k =
+    let all : m ≡ n + (m - n) = omega (arith, from) in
+    let both = turn_more command input n (m - n) turn other h (subst (λ i. TurnOf command (reads_at i input) other) all k) in
+    let none : m - n ≡ 0 = both.0 in
+    (omega (arith, from, none), both.1)
+
+-- over one input it ends behind the same parts, in one way
+pub one_turn : (command : Command) (input : List ℕ) (n m : ℕ) (turn other : Turn) → TurnOf command (reads_at n input) turn → TurnOf command (reads_at m input) other → (n ≡ m) × (turn ≡ other)
+one_turn command input n m turn other h k = ⊎_elim
+    (λ l. (let below : n ≤ m = omega (arith, l) in turn_from command input n m turn other below h k))
+    (λ from. (let back = turn_from command input m n other turn from k h in (sym back.0, sym back.1)))
+    (cases_lt n m)
+
+-- ---- the answers of commands that read a diagram and nothing behind it
+
+pub answered : (command : Command) (does : PlainDiagram → List Read → Turn → Type 0) (tells : PlainDiagram → List Read → Status → List ℕ → Type 0) →
+    ((reads : List Read) (turn : Turn) → TurnOverDiagram does reads turn → TurnOf command reads turn) →
+    ((reads : List Read) (status : Status) (text : List ℕ) → TextOverDiagram tells reads status text → TextOf command reads status text) →
+    parts_of command ≡ Some 1 → (source : Effect) (d : PlainDiagram) (r : Result Answer Failure) → HasValue IsDiagramOf source d →
+    IfOk r (λ _. does d [] TellsText) → IfOk r (λ answer. tells d [] answer.status answer.text) → IfErr r (HasNoText (does d) []) → IsAnswer command source r
+answered command does tells turns texts one source d (Ok answer) loaded turn told failed =
+    (
+      ReadPart loaded.text ∷ [],
+      loaded.read,
+      turns (ReadPart loaded.text ∷ []) TellsText (inr (loaded.text, d, refl, loaded.spelled.0, turn)),
+      texts (ReadPart loaded.text ∷ []) answer.status answer.text (d, loaded.spelled, told),
+    )
+answered command does tells turns texts one source d (Err (failures.Refused why)) loaded turn told failed =
+    (ReadPart loaded.text ∷ [], loaded.read, turns (ReadPart loaded.text ∷ []) (Refuses why) (inr (loaded.text, d, refl, loaded.spelled.0, failed)))
+answered command does tells turns texts one source d (Err failures.Memory) loaded turn told failed =
+    let count : most_parts (Some command) ≡ 1 = cc in
+    (loaded.read.0, subst (λ n. TookParts n source) (sym count) (took_parts 1 (ReadPart loaded.text ∷ []) source (omega arith) loaded.read))
+answered command does tells turns texts one source d (Err failures.Words) loaded turn told failed = absurd failed
+answered command does tells turns texts one source d (Err failures.ReadFault) loaded turn told failed = absurd failed

@@ -79,6 +79,8 @@ LineFails words source out err = (failure : Failure) × HasFailed words source f
 -- What each status says.
 abbrev pub Says : List (List ℕ) → Effect → Effect → Effect → Status → Type 0
 Says words source out err statuses.Done = TextStands words source out err statuses.Done
+Says words source out err statuses.No = TextStands words source out err statuses.No
+Says words source out err statuses.Undecided = TextStands words source out err statuses.Undecided
 Says words source out err statuses.WriteFault = TextFails words source out err ⊎ LineFails words source out err
 Says words source out err status = LineStands words source out err status
 

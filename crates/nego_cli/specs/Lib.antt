@@ -7,14 +7,13 @@ pub mod Delivery
 pub mod Dispatch
 pub mod Effect
 pub mod FormText
+pub mod Headline
 pub mod Loading
-pub mod Narrow
-pub mod NarrowWork
-pub mod Order
 pub mod Parts
 pub mod Reduce
 pub mod Refusals
 pub mod Status
 pub mod Texts
 pub mod Turn
+pub mod Verdict
 pub mod Words

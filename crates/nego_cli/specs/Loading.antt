@@ -40,25 +40,33 @@ IsMisshapen text why = (p : Parsed) × (fault : ShapeFault) × (why ≡ Misshape
 abbrev pub HasNoDiagram : List ℕ → Refusal → Type 0
 HasNoDiagram text why = IsOff text why ⊎ IsMisshapen text why
 
+-- What was read where a part of this name was wanted is none, for this reason: the text has no value, for the reason that
+-- its grammar gives, or there is no text.
+abbrev pub IsNoPart : PartName → (List ℕ → Refusal → Type 0) → Read → Refusal → Type 0
+IsNoPart name is_wrong (ReadPart text) why = is_wrong text why
+IsNoPart name is_wrong ReadTooLong why = why ≡ TooLong name
+IsNoPart name is_wrong (ReadNoEnd line) why = why ≡ NoEnd name line
+
 -- What was read where a diagram was wanted is none, for this reason.
 abbrev pub IsNoDiagram : Read → Refusal → Type 0
-IsNoDiagram (ReadPart text) why = HasNoDiagram text why
-IsNoDiagram ReadTooLong why = why ≡ TooLong Diagram
-IsNoDiagram (ReadNoEnd line) why = why ≡ NoEnd Diagram line
+IsNoDiagram = IsNoPart Diagram HasNoDiagram
 
--- The diagram was read, and is one.
-pub record HasLoaded (source : Effect) (d : PlainDiagram) : Type 0 where
+-- The text spells this diagram, which is one.
+abbrev pub IsDiagramOf : List ℕ → PlainDiagram → Type 0
+IsDiagramOf text d = SpellsDiagram text d × IsDiagram d
+
+-- A part was read, and spells this value.
+pub record HasValue {X : Type 0} (spells : List ℕ → X → Type 0) (source : Effect) (x : X) : Type 0 where
   pub text : List ℕ
   pub read : HasRead (ReadPart text ∷ []) source
-  pub spelled : SpellsDiagram text d
-  pub diagram : IsDiagram d
+  pub spelled : spells text x
 
--- Why no diagram was read: what was read is none, a call of the source failed, or memory was wanted.
-abbrev pub HasNotLoaded : Effect → Failure → Type 0
-HasNotLoaded source (failures.Refused why) = (read : Read) × HasRead (read ∷ []) source × IsNoDiagram read why
-HasNotLoaded source failures.ReadFault = HasFaulted source × TookParts 1 source
-HasNotLoaded source failures.Memory = Stayed source × TookParts 1 source
-HasNotLoaded source failures.Words = ⊥
+-- Why no value of a part was read: what was read is none, a call of the source failed, or memory was wanted.
+abbrev pub HasNoValue : (Read → Refusal → Type 0) → Effect → Failure → Type 0
+HasNoValue is_none source (failures.Refused why) = (read : Read) × HasRead (read ∷ []) source × is_none read why
+HasNoValue is_none source failures.ReadFault = HasFaulted source × TookParts 1 source
+HasNoValue is_none source failures.Memory = Stayed source × TookParts 1 source
+HasNoValue is_none source failures.Words = ⊥
 
 -- Why no part of this name was read: it is too long, or has no end, a call of the source failed, or memory was wanted.
 abbrev pub HasNoPart : PartName → Effect → Failure → Type 0
@@ -68,10 +76,6 @@ HasNoPart part source (failures.Refused _) = ⊥
 HasNoPart part source failures.ReadFault = HasFaulted source × TookParts 1 source
 HasNoPart part source failures.Memory = Stayed source × TookParts 1 source
 HasNoPart part source failures.Words = ⊥
-
--- The text spells this diagram, which is one.
-abbrev pub IsDiagramOf : List ℕ → PlainDiagram → Type 0
-IsDiagramOf text d = SpellsDiagram text d × IsDiagram d
 
 -- Why there is no diagram of the text: it has none, or memory was wanted.
 abbrev pub IsUnspelled : List ℕ → Failure → Type 0

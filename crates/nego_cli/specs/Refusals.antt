@@ -92,7 +92,6 @@ refusal_words (refusals.NoEnd part line) rest = place_words part line (codes "No
 refusal_words (refusals.Off part fault) rest = fault_words part fault rest
 refusal_words (refusals.Misshapen p fault) rest = place_words parts.Diagram fault.line (shape_words (diagram_of p) fault.kind rest)
 refusal_words (refusals.Undetermined d o a) rest = codes "NotDeterministic " ++ choice_words d o.0 a.0 rest
-refusal_words refusals.NotYet rest = codes "diagram not yet" ++ rest
 
 -- the line of a refusal
 abbrev pub refusal_line : Refusal → List ℕ

@@ -1,26 +1,52 @@
-//! The text of a certificate, and of what follows it where a diagram is sound.
+//! The text of a certificate, and of what follows it: the verdict, and the summary or the atoms that are left.
 
-ghost use Rattle.std.specs.Prelude.{◌≡◌, ◌++◌, codes, decimal, map, IfOk, OnOk};
+ghost use Rattle.std.specs.Prelude.{◌≡◌, ◌<◌, [], ◌++◌, codes, decimal, length, map, IfOk, OnOk};
 ghost use Rattle.nego_base.specs.Appending.{Appends};
-ghost use Rattle.nego_expr.specs.SummaryText.{plain_summary};
 ghost use Rattle.nego_expr.specs.UseView.{plain_use};
-ghost use Rattle.nego_cli.specs.Certificate.{use_line, use_lines, reduction_text};
+ghost use Rattle.nego_reduce.specs.Reducing.{uses_of};
+ghost use Rattle.nego_cli.specs.Certificate.{use_line, use_lines, certificate_lines, left_line, left_lines, reduced_text};
+ghost use Rattle.nego_cli.specs.Verdict.{verdict_line};
 
-use nego_base::{Memory, Text};
-use nego_expr::{Summary, Use, Uses, print_summary};
+use crate::verdict::Verdict;
+use nego_base::{AtomId, AtomSet, Memory, Text};
+use nego_expr::{Use, Uses, print_summary};
+use nego_model::Diagram;
+use nego_reduce::Reduced;
 use std::alloc::Global;
 
-/// The text of a reduction: the certificate of the uses, the line of the verdict, and the summary.
-pub(crate) fn print_reduction(alloc: Global, uses: &Uses, summary: &Summary) -> Result<Text, Memory>
-    ensures { IfOk result (λ text. text ≡ reduction_text (map plain_use uses.now) (plain_summary summary.now)) }
+/// The text of a reduction: the certificate of the uses, the line of the verdict, and the summary or the atoms that are
+/// left.
+pub(crate) fn print_reduction(
+    alloc: Global,
+    d: &Diagram,
+    reduced: &Reduced,
+    verdict: Verdict,
+) -> Result<Text, Memory>
+    ensures { IfOk result (λ text. text ≡ reduced_text d.now reduced.now verdict) }
+{
+    match reduced {
+        Reduced::One(summary, uses) => {
+            let mut text = print_verdict(alloc, uses, verdict)?;
+            let summary = print_summary(alloc, summary)?;
+            text.extend_from_slice(summary.as_slice())?;
+            Ok(text)
+        }
+        Reduced::Stuck(left, uses) | Reduced::NodeLimit(left, uses) => {
+            let mut text = print_verdict(alloc, uses, verdict)?;
+            add_left(&mut text, d, left.left())?;
+            Ok(text)
+        }
+    }
+}
+
+/// The text of the certificate of the uses, and the line of the verdict.
+fn print_verdict(alloc: Global, uses: &Uses, verdict: Verdict) -> Result<Text, Memory>
+    ensures { IfOk result (λ text. text ≡ certificate_lines (map plain_use uses.now) (verdict_line verdict (length uses.now) [])) }
 {
     let mut text = Text::copy(alloc, b"certificate 1\n")?;
     add_uses(&mut text, uses.as_slice())?;
     text.extend_from_slice(b"end\n")?;
-    add_words(&mut text, b"sound uses ", uses.len())?;
-    text.extend_from_slice(b"\n")?;
-    let summary = print_summary(alloc, summary)?;
-    text.extend_from_slice(summary.as_slice())?;
+    verdict.add_line(&mut text, uses.len())?;
     Ok(text)
 }
 
@@ -59,4 +85,26 @@ fn add_words(text: &mut Text, words: &[u8], n: usize) -> Result<(), Memory>
 {
     text.extend_from_slice(words)?;
     text.push_decimal(n as u64)
+}
+
+/// Adds a line for each atom of the diagram that is left.
+fn add_left(text: &mut Text, d: &Diagram, left: AtomSet) -> Result<(), Memory>
+    ensures { OnOk result (Appends text.old text.new (left_lines d.now left)) }
+{
+    for n in 0..d.atoms() {
+        if left.has(AtomId(n)) {
+            add_atom(text, d, AtomId(n))?;
+        }
+    }
+    Ok(())
+}
+
+/// Adds the line of an atom that is left.
+fn add_atom(text: &mut Text, d: &Diagram, n: AtomId) -> Result<(), Memory>
+    requires { n.0 < length d.now.atoms }
+    ensures { OnOk result (Appends text.old text.new (left_line d.now n.0)) }
+{
+    text.extend_from_slice(b"left ")?;
+    text.extend_from_slice(d.atom_name(n))?;
+    text.extend_from_slice(b"\n")
 }

@@ -12,35 +12,42 @@ use crate::failure::Failure;
 use crate::load::load;
 use crate::reduce::reduce;
 use crate::{Command, WordsAnswer, words_of};
-use nego_base::Text;
+use nego_base::{Steps, Text};
 use nego_io::Source;
 use std::alloc::Global;
+use std::sync::ledger::Ledger;
 
 /// The answer of the command: one arm for each that is built.
-fn answer<S: Source>(alloc: Global, command: &Command, source: &mut S) -> Result<Answer, Failure>
+fn answer<S: Source, C: Ledger>(
+    alloc: Global,
+    command: &Command,
+    source: &mut S,
+    steps: &mut Steps<C>,
+) -> Result<Answer, Failure>
     ensures found { IsAnswer command.now (effect S.left S.faults source.old source.new) result }
     ensures untouched { most_parts (Some command.now) ≡ 0 → source.new ≡ source.old }
     ensures later { S.faults source.old ≤ S.faults source.new }
 {
     match command {
         Command::Check => check(alloc, &load(alloc, source)?),
-        Command::Reduce => reduce(alloc, load(alloc, source)?),
+        Command::Reduce => reduce(alloc, load(alloc, source)?, steps),
         _ => Err(Failure::Words),
     }
 }
 
 /// Finds the answer to the words.
-pub(crate) fn find_answer<S: Source>(
+pub(crate) fn find_answer<S: Source, C: Ledger>(
     alloc: Global,
     words: &[Text],
     source: &mut S,
+    steps: &mut Steps<C>,
 ) -> Result<Answer, Failure>
     ensures found { IsFound words.now (effect S.left S.faults source.old source.new) result }
     ensures untouched { most_parts (asked words.now) ≡ 0 → source.new ≡ source.old }
     ensures later { S.faults source.old ≤ S.faults source.new }
 {
     match words_of(alloc, words) {
-        Ok(command) => answer(alloc, &command, source),
+        Ok(command) => answer(alloc, &command, source, steps),
         Err(WordsAnswer::Words) => Err(Failure::Words),
         Err(WordsAnswer::Memory) => Err(Failure::Memory),
     }

@@ -28,8 +28,6 @@ pub enum Refusal {
     Misshapen(Parsed, ShapeFault),
     /// The diagram isn't deterministic: after this outcome this agent has two next atoms or more.
     Undetermined(Diagram, OutcomeId, AgentId),
-    /// The diagram isn't of a form that is taken yet.
-    NotYet,
 }
 
 /// Why there is no text.

@@ -5,7 +5,7 @@ ghost use Rattle.nego_reader.specs.Content.{content_of};
 ghost use Rattle.nego_shape.specs.Shaped.{HasNameWords};
 ghost use Rattle.nego_cli.specs.Effect.{effect};
 ghost use Rattle.nego_cli.specs.Parts.{HasRead, ReadPart};
-ghost use Rattle.nego_cli.specs.Loading.{HasNoPart, HasLoaded, HasNotLoaded, IsDiagramOf, IsUnspelled, IsShapeOf, HasNoShape};
+ghost use Rattle.nego_cli.specs.Loading.{HasNoPart, HasValue, HasNoValue, IsNoDiagram, IsDiagramOf, IsUnspelled, IsShapeOf, HasNoShape};
 
 use crate::failure::{Failure, PartName, Refusal};
 use nego_base::ReadFaults;
@@ -18,8 +18,8 @@ use std::alloc::Global;
 /// How many bytes a part of an input may have.
 const PART_LIMIT: u32 = 262_144;
 
-/// Reads the part of this name that the input begins with.
-fn load_part<S: Source>(alloc: Global, name: PartName, source: &mut S) -> Result<Part, Failure>
+/// Reads the part of this name that the input begins with: the diagram, or a part behind it.
+pub(crate) fn load_part<S: Source>(alloc: Global, name: PartName, source: &mut S) -> Result<Part, Failure>
     ensures fits { IfOk result (λ part. length part.bytes < 2 ^ 32 - 1) }
     ensures ok { IfOk result (λ part. HasRead (ReadPart part.bytes ∷ []) (effect S.left S.faults source.old source.new)) }
     ensures err { IfErr result (HasNoPart name (effect S.left S.faults source.old source.new)) }
@@ -64,8 +64,8 @@ fn shaped(alloc: Global, parsed: Parsed) -> Result<Diagram, Failure>
 
 /// Reads the diagram that the input begins with.
 pub(crate) fn load<S: Source>(alloc: Global, source: &mut S) -> Result<Diagram, Failure>
-    ensures ok { IfOk result (HasLoaded (effect S.left S.faults source.old source.new)) }
-    ensures err { IfErr result (HasNotLoaded (effect S.left S.faults source.old source.new)) }
+    ensures ok { IfOk result (HasValue IsDiagramOf (effect S.left S.faults source.old source.new)) }
+    ensures err { IfErr result (HasNoValue IsNoDiagram (effect S.left S.faults source.old source.new)) }
     ensures later { S.faults source.old ≤ S.faults source.new }
 {
     let part = load_part(alloc, PartName::Diagram, source)?;

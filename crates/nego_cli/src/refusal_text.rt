@@ -44,7 +44,6 @@ fn add_refusal(alloc: Global, text: &mut Text, why: &Refusal) -> Result<(), Memo
             text.extend_from_slice(b"NotDeterministic ")?;
             add_choice(text, d, *o, *a)
         }
-        Refusal::NotYet => text.extend_from_slice(b"diagram not yet"),
     }
 }
 

@@ -8,10 +8,14 @@ ghost use Rattle.nego_cli.specs.Status.{status_number};
 pub enum Status {
     /// The answer was put on `out`.
     Done,
+    /// The answer was put on `out`, and it says no.
+    No,
     /// The words are no command that is built.
     Words,
     /// The input was refused.
     Refused,
+    /// The answer was put on `out`, and it decides nothing.
+    Undecided,
     /// The source failed.
     ReadFault,
     /// A sink failed.
@@ -27,8 +31,10 @@ impl Status {
     {
         match self {
             Status::Done => 0,
+            Status::No => 1,
             Status::Words => 2,
             Status::Refused => 3,
+            Status::Undecided => 4,
             Status::ReadFault => 5,
             Status::WriteFault => 6,
             Status::Memory => 9,

@@ -6,23 +6,28 @@ ghost use Rattle.nego_cli.specs.Effect.{HasFaulted, effect};
 ghost use Rattle.nego_cli.specs.Parts.{reads_at};
 ghost use Rattle.nego_cli.specs.Turn.{TellsText, Refuses};
 ghost use Rattle.nego_cli.specs.Commands.{TurnOf, asked, Asks, most_parts};
+ghost use Rattle.nego_cli.specs.Status.{IsTelling};
 ghost use Rattle.nego_cli.specs.Answer.{Says, ShowsLine, ShowsText, FailsToRead};
+ghost use Rattle.nego_cli.specs.Headline.{Headline};
 
 use crate::deliver::deliver;
 use crate::dispatch::find_answer;
 use crate::failure::{Failure, Refusal};
 use crate::{Command, Status};
-use nego_base::Text;
+use nego_base::{Steps, Text};
 use nego_io::{Sink, Source};
 use std::alloc::Global;
+use std::sync::ledger::Ledger;
 
-/// Does what the words say: takes its parts from the source, and puts a text on `out` or a line on `err`.
-pub fn nego<S: Source, O: Sink, E: Sink>(
+/// Does what the words say: takes its parts from the source, and puts a text on `out` or a line on `err`. The steps count
+/// the guards that are tested; a caller that counts nothing hands in a fresh counter.
+pub fn nego<S: Source, O: Sink, E: Sink, C: Ledger>(
     alloc: Global,
     words: &[Text],
     source: &mut S,
     out: &mut O,
     err: &mut E,
+    steps: &mut Steps<C>,
 ) -> Status
     // What was put on `out` and `err`, what is left of the source, and why.
     ensures says { Says words.now (effect S.left S.faults source.old source.new) (effect O.taken O.faults out.old out.new) (effect E.taken E.faults err.old err.new) result }
@@ -39,18 +44,21 @@ pub fn nego<S: Source, O: Sink, E: Sink>(
     ensures text { WhereTold (S.left source.old) (S.left source.new) (λ input _. (command : Command) (n : ℕ) → Asks words.now command → TurnOf command (reads_at n input) TellsText →
         ShowsText command (reads_at n input) (effect O.taken O.faults out.old out.new) (effect E.taken E.faults err.old err.new) result ⊎ FailsToRead (effect S.left S.faults source.old source.new) result) }
 
+    // `reduce` decides soundness for each acyclic deterministic diagram, and whatever it calls sound is so.
+    ensures headline { Asks words.now Command.Reduce → Headline (effect S.left S.faults source.old source.new) (effect O.taken O.faults out.old out.new) (effect E.taken E.faults err.old err.new) result }
+
     // What has no part in the answer stays as it is, whether it tells or not: the source where the command that is asked
     // for reads no part, `out` where no text is put there, and `err` where the text is on `out`.
     ensures source_untouched { most_parts (asked words.now) ≡ 0 → source.new ≡ source.old }
-    ensures out_untouched { (result ≡ Status.Done)
+    ensures out_untouched { IsTelling result
         ⊎ (((result ≡ Status.WriteFault) × HasFaulted (effect O.taken O.faults out.old out.new)) ⊎ (out.new ≡ out.old)) }
-    ensures err_untouched { result ≡ Status.Done → err.new ≡ err.old }
+    ensures err_untouched { IsTelling result → err.new ≡ err.old }
 
     // No count of faults falls.
     ensures source_faults { S.faults source.old ≤ S.faults source.new }
     ensures out_faults { O.faults out.old ≤ O.faults out.new }
     ensures err_faults { E.faults err.old ≤ E.faults err.new }
 {
-    let answer = find_answer(alloc, words, source);
+    let answer = find_answer(alloc, words, source, steps);
     deliver(alloc, &answer, out, err)
 }

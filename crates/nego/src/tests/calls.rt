@@ -1,10 +1,14 @@
 //! Calls of `nego` over memory, as rows of tables.
 
-use nego_base::{Memory, Seq, Text};
-use nego_cli::nego;
+ghost use Rattle.std.specs.Prelude.{◌≡◌, ◌<◌};
+
+use nego_base::{Memory, Seq, Steps, Text};
+use nego_cli::{Status, nego};
 use nego_io::{MemSink, MemSource, Source};
 use std::alloc::Global;
+use std::marker::Brand;
 use std::process::Abort;
+use std::sync::ledger::{Blank, Ledger};
 use std::test::Fail;
 
 /// A call over memory, and what comes of it.
@@ -134,6 +138,34 @@ pub(crate) fn words_in(alloc: Global, line: &str) -> Result<Seq<Text>, Memory> {
     Ok(words)
 }
 
+/// The status of a call over memory.
+pub(crate) fn call_over(
+    alloc: Global,
+    words: &[Text],
+    source: &mut MemSource,
+    out: &mut MemSink,
+    err: &mut MemSink,
+) -> Status {
+    counted::<Brand>(alloc, words, source, out, err, Blank::new(1))
+}
+
+/// The same, with the steps counted in a ledger of this blank.
+fn counted<C: Ledger>(
+    alloc: Global,
+    words: &[Text],
+    source: &mut MemSource,
+    out: &mut MemSink,
+    err: &mut MemSink,
+    blank: Blank,
+) -> Status
+    requires name { blank.name ≡ C.name }
+    requires parts { blank.parts ≡ C.parts }
+    requires share { 0 < blank.parts }
+{
+    let mut steps = Steps::<C>::open(blank);
+    nego(alloc, words, source, out, err, &mut steps)
+}
+
 /// That the call, of this place in this table, answers as the row says.
 pub(crate) fn answers(
     rt: &impl Abort,
@@ -160,7 +192,7 @@ pub(crate) fn answers_to(
     let mut source = MemSource::new(input, Seq::copy_of(alloc, call.source_fails)?);
     let mut out = MemSink::new(alloc, Seq::copy_of(alloc, call.out_fails)?)?;
     let mut err = MemSink::new(alloc, Seq::copy_of(alloc, call.err_fails)?)?;
-    let status = nego(alloc, &words, &mut source, &mut out, &mut err);
+    let status = call_over(alloc, &words, &mut source, &mut out, &mut err);
     assert!(rt; status.number() == call.status, "{table} {i}");
     assert!(rt; out.bytes() == call.out, "{table} {i}");
     assert!(rt; err.bytes() == call.err, "{table} {i}");

@@ -7,7 +7,7 @@ use std::process::Abort;
 use std::test::Fail;
 
 /// What is refused.
-pub(crate) static REFUSALS: [Call; 17] = [
+pub(crate) static REFUSALS: [Call; 14] = [
     Call {
         input: b"nego 1
 agent a 2
@@ -104,72 +104,6 @@ last x
 end
 ",
         err: b"refused diagram line 18 TooMany agents\n",
-        ..REFUSED
-    },
-    Call {
-        input: b"nego 1
-agent a 2
-agent b 2
-agent c 2
-atom fork a b c
-out go
-case :
-next ab a b
-next cc c
-atom ab a b
-out x
-case : a:=b b:=a
-next join a b
-atom cc c
-out y
-case : c:=1
-next join c
-atom join a b c
-out ok
-case :
-first fork
-last join
-end
-",
-        err: b"refused diagram not yet\n",
-        ..REFUSED
-    },
-    Call {
-        input: b"nego 1
-agent a 4
-atom turn a
-out again
-case : a:=a+1
-next turn a
-out stop
-case :
-next end a
-atom end a
-out ok
-case :
-first turn
-last end
-end
-",
-        err: b"refused diagram not yet\n",
-        ..REFUSED
-    },
-    Call {
-        input: b"nego 1
-agent a 2
-agent b 2
-atom extra a b
-out x
-case :
-next only a b
-atom only a b
-out set
-case : a:=1
-first only
-last only
-end
-",
-        err: b"refused diagram not yet\n",
         ..REFUSED
     },
     Call {

@@ -2,7 +2,7 @@ use Rattle.std.proofs.Common.{refl}
 use Rattle.nego_cli.specs.Effect.{effect}
 use Rattle.nego_cli.specs.Commands.{asked, most_parts}
 use Rattle.nego_cli.proofs.Found.{found_so}
-use Rattle.nego_cli.proofs.Loaded.{took_none}
+use Rattle.nego_cli.proofs.PartLaws.{took_none}
 use Rattle.nego_cli.proofs.dispatch.find_answer.Goals as goal
 
 pub returns-in-Ok-clause-found : goal.returns-in-Ok-clause-found

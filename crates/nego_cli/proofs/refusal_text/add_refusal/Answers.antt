@@ -17,12 +17,3 @@ returns-in_ok-extend_from_slice-in-Undetermined c =
     subst (λ why. OnOk r (Appends old new (refusal_words why))) (sym c.in-Undetermined.is)
     (then_ok r (Appends mid new choice) (Appends old new (λ rest. words ++ choice rest))
     (appends_then old mid new (λ rest. words ++ rest) choice (appends_words old mid words c.in_ok-extend_from_slice-in-Undetermined.ensures.ok)) c.add_choice.ensures)
-
-pub returns-in-NotYet : goal.returns-in-NotYet
-returns-in-NotYet c =
-    let old = c.args.text.now in
-    let new = c.extend_from_slice-in-NotYet.new.self in
-    let r = c.extend_from_slice-in-NotYet.result in
-    let words = codes "diagram not yet" in
-    subst (λ why. OnOk r (Appends old new (refusal_words why))) (sym c.in-NotYet.is)
-    (then_ok r (new ≡ old ++ words) (Appends old new (λ rest. words ++ rest)) (appends_words old new words) c.extend_from_slice-in-NotYet.ensures.ok)

@@ -1,6 +1,7 @@
 use Rattle.nego_cli.specs.Effect.{effect}
 use Rattle.nego_cli.proofs.Ends.{what_is_said, usage_shown, refusal_shown, text_shown}
 use Rattle.nego_cli.proofs.Found.{found_named}
+use Rattle.nego_cli.proofs.Headlines.{headline}
 use Rattle.nego_cli.proofs.top.nego.Goals as goal
 
 pub deliver-requires : goal.deliver-requires
@@ -38,3 +39,14 @@ returns-clause-text g c =
     (effect g.O.Sink.taken g.O.Sink.faults c.args.out.now c.deliver.new.out)
     (effect g.E.Sink.taken g.E.Sink.faults c.args.err.now c.deliver.new.err)
     c.find_answer-answer.result c.deliver.result c.find_answer-answer.ensures.found c.deliver.ensures.delivered
+
+pub returns-clause-headline : goal.returns-clause-headline
+returns-clause-headline g c =
+    let source = effect g.S.Source.left g.S.Source.faults c.args.source.now c.find_answer-answer.new.source in
+    let out = effect g.O.Sink.taken g.O.Sink.faults c.args.out.now c.deliver.new.out in
+    let err = effect g.E.Sink.taken g.E.Sink.faults c.args.err.now c.deliver.new.err in
+    let found = c.find_answer-answer.ensures.found in
+    let put = c.deliver.ensures.delivered in
+    headline c.args.words.now source out err c.deliver.result
+    (what_is_said c.args.words.now source out err c.find_answer-answer.result c.deliver.result found put)
+    (text_shown c.args.words.now source out err c.find_answer-answer.result c.deliver.result found put)
