@@ -1,5 +1,6 @@
 -- How a call ends: what its status says, and that each cause has its answer.
 use Rattle.std.proofs.Common.{◌≡◌, ◌⊎◌, ◌∙◌, inl, inr, ℕ, ◌<◌, List, [], length, Some, None, Result, Ok, Err, refl, sym, ap, subst, arith}
+use Rattle.std.specs.Prelude.{IfOk, OnErr}
 use Rattle.std.specs.Option.{option_map_or}
 use Rattle.std.proofs.lemmas.Option.{same_Some}
 use Rattle.nego_io.specs.Outside.{WhereTold}
@@ -16,7 +17,7 @@ use Rattle.nego_cli.specs.Effect.{Effect, HasFaulted, Put}
 use Rattle.nego_cli.specs.Parts.{Read, Reads, reads_at, HasRead, TakesParts, TookParts}
 use Rattle.nego_cli.specs.Turn.{Turn, TellsText, Refuses}
 use Rattle.nego_cli.specs.Commands.{TurnOf, TextOf, asked, Asks, most_parts}
-use Rattle.nego_cli.specs.Delivery.{IsDelivered, IsLinePut}
+use Rattle.nego_cli.specs.Delivery.{IsDelivered, IsFailurePut, IsLinePut}
 use Rattle.nego_cli.specs.Answer.{failure_line, failure_status, IsTold, IsRefused, HasFailed, IsFound, TextStands, Says, ShowsLine, ShowsText, FailsToRead}
 use Rattle.nego_cli.proofs.PartLaws.{took_parts}
 use Rattle.nego_cli.proofs.Turns.{parts_within, one_turn, text_telling}
@@ -173,3 +174,34 @@ text_shown words source out err (Err failures.ReadFault) status cause (nothing, 
 text_shown words source out err (Err failures.Memory) status cause (nothing, put) =
     told_so (TakesParts (most_parts (asked words))) (IsTextShown words source out err status) source.before source.after
     (λ input left took command n asks turn. inl (memory_for_text command (reads_at n input) out err status put)) cause.1
+
+-- ---- what stays as it is
+
+-- `out` stays where no text is put there
+pub out_kept : {X : Type 0} (old new : X) (words : List (List ℕ)) (source out err : Effect) (r : Result Answer Failure) (status : Status) → IsFound words source r → IsDelivered r out err status → OnErr r (new ≡ old) →
+    IsTelling status ⊎ (((status ≡ statuses.WriteFault) × HasFaulted out) ⊎ (new ≡ old))
+out_kept old new words source out err (Ok answer) status told (inl (is, put, nothing)) same = inl (subst IsTelling (sym is) (text_telling told.command told.reads answer.status answer.text told.told))
+out_kept old new words source out err (Ok answer) status told (inr (is, front, tried)) same = inr (inl (is, front.0))
+out_kept old new words source out err (Err failure) status cause put same = inr (inr same)
+
+-- a status of texts isn't that of a line
+line_not_telling : (line : List ℕ) (failure : Failure) (err : Effect) (status : Status) → IsLinePut line (failure_status failure) err status → IsTelling status → ⊥
+line_not_telling line failures.Words err status (inl (is, put)) telling = subst IsTelling is telling
+line_not_telling line (failures.Refused why) err status (inl (is, put)) telling = subst IsTelling is telling
+line_not_telling line failures.ReadFault err status (inl (is, put)) telling = subst IsTelling is telling
+line_not_telling line failures.Memory err status (inl (is, put)) telling = subst IsTelling is telling
+line_not_telling line failure err status (inr (is, front)) telling = subst IsTelling is telling
+
+failure_not_telling : (failure : Failure) (err : Effect) (status : Status) → IsFailurePut failure err status → IsTelling status → ⊥
+failure_not_telling failures.Words err status put telling = line_not_telling (failure_line failures.Words) failures.Words err status put telling
+failure_not_telling (failures.Refused why) err status (inl put) telling = line_not_telling (failure_line (failures.Refused why)) (failures.Refused why) err status put telling
+failure_not_telling (failures.Refused why) err status (inr put) telling = line_not_telling (failure_line failures.Memory) failures.Memory err status put telling
+failure_not_telling failures.ReadFault err status put telling = line_not_telling (failure_line failures.ReadFault) failures.ReadFault err status put telling
+failure_not_telling failures.Memory err status put telling = line_not_telling (failure_line failures.Memory) failures.Memory err status put telling
+
+-- `err` stays where a text is told
+pub err_kept : {X : Type 0} (old new : X) (out err : Effect) (r : Result Answer Failure) (status : Status) → IsDelivered r out err status → IfOk r (λ _. (status ≡ statuses.WriteFault) ⊎ (new ≡ old)) →
+    IsTelling status → new ≡ old
+err_kept old new out err (Ok answer) status put (inl failed) telling = absurd (subst IsTelling failed telling)
+err_kept old new out err (Ok answer) status put (inr same) telling = same
+err_kept old new out err (Err failure) status (nothing, put) same telling = absurd (failure_not_telling failure err status put telling)

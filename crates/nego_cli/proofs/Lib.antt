@@ -8,6 +8,7 @@ pub mod FormAtoms
 pub mod NamedPlaces
 pub mod PartLaws
 pub mod Loaded
+pub mod OneVerdict
 pub mod Verdicts
 pub mod Turns
 pub mod Found

@@ -52,8 +52,7 @@ read_behind first second input at now h k =
     let m = length second in
     let count : length (first ++ second) ≡ n + m = length-append first second in
     let there : second ≡ reads_at m (behind_parts n input) = k.0 ∙ ap (reads_at m) h.1 in
-    let all : first ++ second ≡ reads_at n input ++ reads_at m (behind_parts n input) = ap (λ t. t ++ second) h.0 ∙ ap (λ t. reads_at n input ++ t) there in
-    (
+    let all : first ++ second ≡ reads_at n input ++ reads_at m (behind_parts n input) = ap (λ t. t ++ second) h.0 ∙ ap (λ t. reads_at n input ++ t) there in (
       all ∙ (sym (reads_more n m input) ∙ ap (λ i. reads_at i input) (sym count)),
       k.1 ∙ (ap (behind_parts m) h.1 ∙ (sym (behind_more n m input) ∙ ap (λ i. behind_parts i input) (sym count))),
     )

@@ -236,13 +236,12 @@ pub answered : (command : Command) (does : PlainDiagram → List Read → Turn �
     ((reads : List Read) (status : Status) (text : List ℕ) → TextOverDiagram tells reads status text → TextOf command reads status text) →
     parts_of command ≡ Some 1 → (source : Effect) (d : PlainDiagram) (r : Result Answer Failure) → HasValue IsDiagramOf source d →
     IfOk r (λ _. does d [] TellsText) → IfOk r (λ answer. tells d [] answer.status answer.text) → IfErr r (HasNoText (does d) []) → IsAnswer command source r
-answered command does tells turns texts one source d (Ok answer) loaded turn told failed =
-    (
-      ReadPart loaded.text ∷ [],
-      loaded.read,
-      turns (ReadPart loaded.text ∷ []) TellsText (inr (loaded.text, d, refl, loaded.spelled.0, turn)),
-      texts (ReadPart loaded.text ∷ []) answer.status answer.text (d, loaded.spelled, told),
-    )
+answered command does tells turns texts one source d (Ok answer) loaded turn told failed = (
+  ReadPart loaded.text ∷ [],
+  loaded.read,
+  turns (ReadPart loaded.text ∷ []) TellsText (inr (loaded.text, d, refl, loaded.spelled.0, turn)),
+  texts (ReadPart loaded.text ∷ []) answer.status answer.text (d, loaded.spelled, told),
+)
 answered command does tells turns texts one source d (Err (failures.Refused why)) loaded turn told failed =
     (ReadPart loaded.text ∷ [], loaded.read, turns (ReadPart loaded.text ∷ []) (Refuses why) (inr (loaded.text, d, refl, loaded.spelled.0, failed)))
 answered command does tells turns texts one source d (Err failures.Memory) loaded turn told failed =

@@ -58,3 +58,8 @@ verdict_words NodeLimit = codes "undecided nodes"
 -- the line of a verdict after so many uses, before the rest of a text
 abbrev pub verdict_line : Verdict → ℕ → List ℕ → List ℕ
 verdict_line verdict count rest = verdict_words verdict ++ (codes " uses " ++ (decimal count ++ (codes "\n" ++ rest)))
+
+-- A diagram has one verdict, after one list of uses.
+abbrev pub VerdictsAreOne : Type 0
+VerdictsAreOne = (d : PlainDiagram) (uses uses' : List PlainUse) (left left' : PlainWork) (verdict verdict' : Verdict) → IsReducedTo d uses left verdict → IsReducedTo d uses' left' verdict' →
+    (uses ≡ uses') × (left ≡ left') × (verdict ≡ verdict')

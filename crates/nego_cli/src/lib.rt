@@ -18,11 +18,13 @@ mod splitting;
 mod status;
 mod top;
 mod verdict;
+mod verdict_laws;
 mod word_laws;
 mod words;
 
 pub use command::{Command, WordsAnswer};
 pub use status::Status;
 pub use top::nego;
+pub use verdict_laws::verdicts_are_one;
 pub use word_laws::number_words_are_decimals;
 pub use words::words_of;

@@ -19,7 +19,11 @@ use std::alloc::Global;
 const PART_LIMIT: u32 = 262_144;
 
 /// Reads the part of this name that the input begins with: the diagram, or a part behind it.
-pub(crate) fn load_part<S: Source>(alloc: Global, name: PartName, source: &mut S) -> Result<Part, Failure>
+pub(crate) fn load_part<S: Source>(
+    alloc: Global,
+    name: PartName,
+    source: &mut S,
+) -> Result<Part, Failure>
     ensures fits { IfOk result (λ part. length part.bytes < 2 ^ 32 - 1) }
     ensures ok { IfOk result (λ part. HasRead (ReadPart part.bytes ∷ []) (effect S.left S.faults source.old source.new)) }
     ensures err { IfErr result (HasNoPart name (effect S.left S.faults source.old source.new)) }

@@ -61,11 +61,7 @@ impl Verdict {
 
 /// The verdict on the diagram whose fresh work was reduced to this. Where more than one atom is left and no use is the
 /// next one, the diagram is unsound where it is acyclic.
-pub(crate) fn verdict_on(
-    alloc: Global,
-    d: &Diagram,
-    reduced: &Reduced,
-) -> Result<Verdict, Memory>
+pub(crate) fn verdict_on(alloc: Global, d: &Diagram, reduced: &Reduced) -> Result<Verdict, Memory>
     ensures { IfOk result (IsVerdictOn d.now reduced.now) }
 {
     match reduced {

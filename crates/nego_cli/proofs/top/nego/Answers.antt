@@ -1,5 +1,5 @@
 use Rattle.nego_cli.specs.Effect.{effect}
-use Rattle.nego_cli.proofs.Ends.{what_is_said, usage_shown, refusal_shown, text_shown}
+use Rattle.nego_cli.proofs.Ends.{what_is_said, usage_shown, refusal_shown, text_shown, out_kept, err_kept}
 use Rattle.nego_cli.proofs.Found.{found_named}
 use Rattle.nego_cli.proofs.Headlines.{headline}
 use Rattle.nego_cli.proofs.top.nego.Goals as goal
@@ -50,3 +50,18 @@ returns-clause-headline g c =
     headline c.args.words.now source out err c.deliver.result
     (what_is_said c.args.words.now source out err c.find_answer-answer.result c.deliver.result found put)
     (text_shown c.args.words.now source out err c.find_answer-answer.result c.deliver.result found put)
+
+pub returns-clause-out_untouched : goal.returns-clause-out_untouched
+returns-clause-out_untouched g c =
+    out_kept c.args.out.now c.deliver.new.out c.args.words.now
+    (effect g.S.Source.left g.S.Source.faults c.args.source.now c.find_answer-answer.new.source)
+    (effect g.O.Sink.taken g.O.Sink.faults c.args.out.now c.deliver.new.out)
+    (effect g.E.Sink.taken g.E.Sink.faults c.args.err.now c.deliver.new.err)
+    c.find_answer-answer.result c.deliver.result c.find_answer-answer.ensures.found c.deliver.ensures.delivered c.deliver.ensures.out_untouched
+
+pub returns-clause-err_untouched : goal.returns-clause-err_untouched
+returns-clause-err_untouched g c =
+    err_kept c.args.err.now c.deliver.new.err
+    (effect g.O.Sink.taken g.O.Sink.faults c.args.out.now c.deliver.new.out)
+    (effect g.E.Sink.taken g.E.Sink.faults c.args.err.now c.deliver.new.err)
+    c.find_answer-answer.result c.deliver.result c.deliver.ensures.delivered c.deliver.ensures.err_untouched
