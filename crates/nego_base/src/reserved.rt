@@ -1,4 +1,4 @@
-ghost use Rattle.std.specs.Prelude.{◌≡◌, ◌==◌, ◌+◌, ◌-◌, ◌<◌, ◌≤◌, [], ◌∷◌, ◌++◌, length, take, max, OnOk, OnErr, IfOk, slice_get, slice_set, remove};
+ghost use Rattle.std.specs.Prelude.{◌≡◌, ◌==◌, ◌+◌, ◌-◌, ◌<◌, ◌≤◌, [], ◌∷◌, ◌++◌, length, take, max, OnOk, OnErr, IfOk, slice_get, slice_set, insert, remove};
 ghost use Rattle.std.specs.Fn.{CalledAt};
 ghost use Rattle.std.specs.List.Retain.{IsFiltered};
 
@@ -105,6 +105,19 @@ impl<T> Reserved<T> {
         ensures room { self.new.room ≡ self.old.room }
     {
         self.items[i] = x;
+    }
+
+    /// Puts an item at a place. The items from there on move up by one.
+    pub fn insert(&mut self, i: usize, x: T)
+    where
+        T: Drop,
+        requires place { i ≤ length self.old.items }
+        requires room { 0 < self.old.room }
+        ensures items { self.new.items ≡ insert self.old.items i x }
+        ensures room { self.new.room ≡ self.old.room - 1 }
+    {
+        self.room -= 1;
+        self.items.insert(i, x).unwrap();
     }
 
     /// Makes room for at least so many more items. On refusal the list is as before.
