@@ -6,6 +6,7 @@ pub mod Lead
 pub mod Made
 pub mod NodeView
 pub mod Room
+pub mod Sorted
 pub mod StandsFor
 pub mod SummaryText
 pub mod Use

@@ -5,6 +5,7 @@ use Rattle.nego_expr.specs.declared.outcome.Outcome.{Outcome}
 use Rattle.nego_expr.specs.declared.work.Work.TheInside.{Inside}
 use Rattle.nego_expr.specs.Work.{WorkAtom, WorkOutcome, PlainWork}
 use Rattle.nego_expr.specs.Room.{RoomyWork}
+use Rattle.nego_expr.specs.Sorted.{AreSlotsOf}
 
 -- an alive outcome, without the wrapping of its numbers
 abbrev pub plain_outcome : Outcome → WorkOutcome
@@ -34,7 +35,7 @@ plain_work w = record {
 
 -- the same, and for how many more nodes and outcomes there is room
 abbrev pub roomy_work : Inside → RoomyWork
-roomy_work w = record { plain = plain_work w; spare_nodes = w.nodes.room; spare_outcomes = min w.outcomes.room (most_numbers - w.numbers) }
+roomy_work w = record { plain = plain_work w; spare_nodes = w.nodes.room; spare_outcomes = min (min w.outcomes.room w.slots.room) (most_numbers - w.numbers) }
 
 -- These are alive outcomes of a work with so many agents, numbers and nodes: their numbers rise and are below the
 -- least that was never used; each has a target or none for every agent, and a node that is there.
@@ -45,10 +46,11 @@ pub record AreAlive (agents numbers nodes : ℕ) (outcomes : List WorkOutcome) :
   pub there : All (λ outcome. outcome.node < nodes) outcomes
 
 -- What holds also between two edits: agents and atoms are few, each atom that is left has an entry of parties, the
--- outcomes are alive ones, and numbers have 32 bits.
+-- outcomes are alive ones, the slots are theirs, and numbers have 32 bits.
 pub record IsUsable (w : Inside) : Type 0 where
   pub few_agents : w.agents ≤ 16
   pub few_atoms : length w.parties ≤ 64
   pub left_below : All (λ n. n < length w.parties) w.left
   pub alive : AreAlive w.agents w.numbers (length w.nodes.nodes) (map plain_outcome w.outcomes.items)
   pub few_numbers : w.numbers ≤ most_numbers
+  pub sorted : AreSlotsOf (map plain_outcome w.outcomes.items) w.slots.items

@@ -1,5 +1,6 @@
 //! A work under edits, and room for them.
 
+use crate::slots::Slots;
 use crate::{Node, Nodes, RuleFault, Targets, Work};
 use nego_base::{AgentId, AgentSet, AtomId, AtomSet, Memory, OutcomeId, Reserved, Seq};
 use std::alloc::Global;
@@ -71,6 +72,7 @@ fn two_atoms(alloc: Global) -> Result<Work, Memory> {
         nodes: Nodes::new(alloc, 0)?,
         numbers: 0,
         outcomes: Reserved::new(alloc, 0)?,
+        slots: Slots::new(alloc, 0)?,
         names: Seq::new(alloc),
         bases: Seq::new(alloc),
     })

@@ -47,13 +47,15 @@ impl Work {
     {
         let number = OutcomeId(self.numbers);
         self.numbers += 1;
-        self.outcomes.push(Outcome {
+        let outcome = Outcome {
             number,
             atom: n,
             targets,
             node,
             passed,
-        });
+        };
+        self.slots.insert(&outcome);
+        self.outcomes.push(outcome);
         number
     }
 
@@ -69,17 +71,16 @@ impl Work {
     {
         let outcomes = self.outcomes.as_slice();
         let i = place_of(outcomes, o).unwrap();
-        let atom = outcomes[i].atom;
-        self.outcomes.set(
-            i,
-            Outcome {
-                number: o,
-                atom,
-                targets,
-                node,
-                passed,
-            },
-        );
+        let old = &outcomes[i];
+        let new = Outcome {
+            number: o,
+            atom: old.atom,
+            targets,
+            node,
+            passed,
+        };
+        self.slots.replace(old, &new);
+        self.outcomes.set(i, new);
     }
 
     /// Takes an alive outcome away.
@@ -89,7 +90,8 @@ impl Work {
         ensures kept { (self.old.spare_nodes ≤ self.new.spare_nodes) × (self.old.spare_outcomes ≤ self.new.spare_outcomes) }
     {
         let i = place_of(self.outcomes.as_slice(), o).unwrap();
-        let _ = self.outcomes.remove(i);
+        let outcome = self.outcomes.remove(i);
+        self.slots.remove(&outcome);
     }
 
     /// Takes an atom and its outcomes away.
@@ -100,6 +102,7 @@ impl Work {
     {
         self.left = self.left.without(n);
         self.outcomes.retain(|x| x.atom != n);
+        self.slots.remove_atom(n);
     }
 
     /// Makes an atom that is left the first.

@@ -6,11 +6,13 @@ ghost use Rattle.nego_model.specs.Diagram.{parties_of, nexts_of, outcome_name};
 ghost use Rattle.nego_model.specs.Limits.{IsWithinLimits};
 ghost use Rattle.nego_model.specs.Summary.{final_outcomes};
 ghost use Rattle.nego_expr.specs.Fresh.{fresh_at, fresh_work, outcomes_of};
+ghost use Rattle.nego_expr.specs.Sorted.{AreSlotsOf};
 ghost use Rattle.nego_expr.specs.StandsFor.{HasTheRuns, IsFresh, StandsFor};
 ghost use Rattle.nego_expr.specs.Use.{most_nodes};
 ghost use Rattle.nego_expr.specs.WorkFault.{WorkFaultHolds};
 ghost use Rattle.nego_expr.specs.WorkView.{plain_outcome};
 
+use crate::slots::Slots;
 use crate::{Node, Nodes, Outcome, Targets, Work, WorkFault};
 use nego_base::{
     AgentId, AgentSet, AtomId, AtomSet, Memory, NodeId, OutcomeId, Reserved, Seq, Text,
@@ -40,6 +42,7 @@ fn build(alloc: Global, d: &Diagram) -> Result<Work, Memory>
     ensures fresh { IfOk result (λ w. w.plain ≡ fresh_work d.now) }
     ensures limits { IsWithinLimits d.now }
 {
+    let outcomes = outcomes_of(alloc, d)?;
     Ok(Work {
         agents: d.agents(),
         left: AtomSet::below(d.atoms()),
@@ -48,7 +51,8 @@ fn build(alloc: Global, d: &Diagram) -> Result<Work, Memory>
         last: d.last(),
         nodes: base_nodes(alloc, d.outcomes())?,
         numbers: d.outcomes(),
-        outcomes: outcomes_of(alloc, d)?,
+        slots: slots_of(alloc, outcomes.as_slice())?,
+        outcomes,
         names: final_names(alloc, d)?,
         bases: parties_of_outcomes(alloc, d)?,
     })
@@ -87,6 +91,17 @@ fn outcomes_of(alloc: Global, d: &Diagram) -> Result<Reserved<Outcome>, Memory>
         outcomes.push(fresh_outcome(alloc, d, OutcomeId(o)));
     }
     Ok(outcomes)
+}
+
+/// Their slots.
+fn slots_of(alloc: Global, outcomes: &[Outcome]) -> Result<Slots, Memory>
+    ensures { IfOk result (λ slots. AreSlotsOf (map plain_outcome outcomes.now) slots.items) }
+{
+    let mut slots = Slots::new(alloc, outcomes.len())?;
+    for outcome in outcomes {
+        slots.insert(outcome);
+    }
+    Ok(slots)
 }
 
 /// The outcome as it is alive at first.

@@ -3,6 +3,7 @@
 ghost use Rattle.nego_expr.specs.Finish.{FinishedWorksTell, OneAtomWorksAreSound};
 ghost use Rattle.nego_expr.specs.Keeps.{WorksAreLocal};
 ghost use Rattle.nego_expr.specs.Lead.{AllowedUsesKeepWhatStands, AllowedUsesLeadToOneWork};
+ghost use Rattle.nego_expr.specs.Sorted.{SortedSlotsAreOne};
 ghost use Rattle.nego_expr.specs.StandsFor.{FreshWorksHaveTheRuns, FreshWorksStand, KeptWorksStand};
 
 /// The fresh work of a deterministic diagram is a work, has the same runs, and relates what the diagram does. What is
@@ -16,6 +17,11 @@ pub fn fresh_works_stand()
 /// The outcomes of a work act on their parties alone, where the outcomes that were read do so.
 pub fn works_are_local()
     ensures { WorksAreLocal }
+{}
+
+/// Alive outcomes have one sorted list.
+pub fn sorted_slots_are_one()
+    ensures { SortedSlotsAreOne }
 {}
 
 /// Allowed uses, made one after the other, lead to one work, and keep what stands for a diagram.

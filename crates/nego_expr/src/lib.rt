@@ -10,6 +10,7 @@ mod laws;
 mod node;
 mod outcome;
 mod room;
+mod slots;
 mod summary;
 mod targets;
 #[cfg(test)]
@@ -18,11 +19,12 @@ mod uses;
 mod work;
 
 pub use laws::{
-    finished_works_tell, fresh_works_stand, one_atom_works_are_sound, uses_that_lead,
-    works_are_local,
+    finished_works_tell, fresh_works_stand, one_atom_works_are_sound, sorted_slots_are_one,
+    uses_that_lead, works_are_local,
 };
 pub use node::{Node, Nodes};
 pub use outcome::Outcome;
+pub use slots::Slot;
 pub use summary::{Final, Summary, print_summary};
 pub use targets::Targets;
 pub use uses::{RuleFault, Use, Uses, WorkFault};

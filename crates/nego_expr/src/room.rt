@@ -25,6 +25,7 @@ impl Work {
         }
         self.nodes.reserve(nodes)?;
         self.outcomes.reserve(outcomes as usize)?;
+        self.slots.reserve(outcomes as usize)?;
         Ok(())
     }
 }

@@ -1,11 +1,15 @@
 //! Where an outcome sends the agents.
 ghost use Rattle.std.specs.Prelude.{◌≡◌, ◌<◌, ◌≤◌, Some, None, replicate, length, slice_get, slice_index_or, slice_set, option_map};
 ghost use Rattle.std.specs.List.{list_any};
+ghost use Rattle.std.specs.Option.{option_cmp};
+ghost use Rattle.std.specs.Ordering.{nat_cmp};
+ghost use Rattle.std.specs.Cmp.Lexicographic.{slice_cmp};
 ghost use Rattle.nego_expr.specs.Use.{same_target};
 
 use nego_base::{AgentId, AtomId};
 use smallvec::SmallVec;
 use std::alloc::Global;
+use std::cmp::Ordering;
 use std::marker::Model;
 
 /// The most agents that there are.
@@ -60,6 +64,13 @@ impl Targets {
         ensures { result ≡ list_any (λ target. same_target target (Some n.0)) self.now }
     {
         any_is(self.entries.as_slice(), n)
+    }
+
+    /// How these targets compare with others: agent by agent, where nothing is below each atom.
+    pub(crate) fn compare(&self, other: &Targets) -> Ordering
+        ensures { result ≡ slice_cmp (option_cmp nat_cmp) self.now other.now }
+    {
+        self.entries.as_slice().cmp(other.entries.as_slice())
     }
 
     /// Sends the agent to the atom.

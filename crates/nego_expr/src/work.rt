@@ -2,10 +2,12 @@
 ghost use Rattle.std.specs.Prelude.{◌≡◌, ◌==◌, ◌<◌, ◌≤◌, Some, None, IfSome, IfNone, slice_get, IsTrue, IsSome, length, map, is_some, option_map};
 ghost use Rattle.std.specs.List.{filter};
 ghost use Rattle.nego_base.specs.Members.{is_in, IsRising};
+ghost use Rattle.nego_expr.specs.Sorted.{plain_slot, IsSorted};
 ghost use Rattle.nego_expr.specs.Work.{outcome_at, outcome_among, outcomes_at, sent_to, work_parties};
 ghost use Rattle.nego_expr.specs.WorkView.{plain_outcome};
 
-use crate::{Nodes, Outcome, Targets};
+use crate::slots::Slots;
+use crate::{Nodes, Outcome, Slot, Targets};
 use nego_base::{AgentId, AgentSet, AtomId, AtomSet, NodeId, OutcomeId, Reserved, Seq, Text};
 use std::marker::Model;
 
@@ -25,6 +27,8 @@ pub struct Work {
     pub(crate) numbers: u32,
     /// The alive outcomes, by rising number.
     pub(crate) outcomes: Reserved<Outcome>,
+    /// Their slots, rising.
+    pub(crate) slots: Slots,
     /// The names of the last atom's outcomes, in their order.
     pub(crate) names: Seq<Text>,
     /// For each outcome that was read the parties of its atom: what contracts speak of, and nothing reads.
@@ -117,6 +121,13 @@ impl Work {
         ensures { map plain_outcome result.now ≡ self.now.plain.outcomes }
     {
         self.outcomes.as_slice()
+    }
+
+    /// The slots of the alive outcomes, rising.
+    pub fn sorted(&self) -> &[Slot]
+        ensures { IsSorted self.now.plain.outcomes (map plain_slot result.now) }
+    {
+        self.slots.as_slice()
     }
 
     /// The alive outcome of a number, where there is one.

@@ -1,0 +1,139 @@
+//! The alive outcomes of a work in the order of their atoms, their targets and their numbers.
+ghost use Rattle.std.specs.Prelude.{◌≡◌, ◌≢◌, ◌↔◌, ◌⊎◌, ◌+◌, ◌<◌, ◌≤◌, [], Some, length, map, max, slice_get, AllPairs, Contains, IfOk, IfErr, OnOk, OnErr};
+ghost use Rattle.std.specs.Ordering.{Less, Greater};
+ghost use Rattle.std.specs.List.Sorted.{IsPartitionPoint};
+ghost use Rattle.nego_expr.specs.Sorted.{PlainSlot, plain_slot, slot_of, slot_cmp, IsBelow};
+ghost use Rattle.nego_expr.specs.WorkView.{plain_outcome};
+
+use crate::{Outcome, Targets};
+use nego_base::{AtomId, Memory, OutcomeId, Reserved};
+use std::alloc::Global;
+use std::cmp::Ordering;
+use std::marker::Model;
+
+/// What is sorted of an alive outcome: its atom, where it sends the agents, and its number.
+#[derive(Debug, Drop)]
+pub struct Slot {
+    pub atom: AtomId,
+    pub targets: Targets,
+    pub outcome: OutcomeId,
+}
+
+impl Slot {
+    /// The slot of an outcome.
+    fn of(x: &Outcome) -> Slot
+        ensures { plain_slot result ≡ slot_of (plain_outcome x.now) }
+    {
+        Slot {
+            atom: x.atom,
+            targets: x.targets.copy(),
+            outcome: x.number,
+        }
+    }
+
+    /// How it compares with the slot of an outcome.
+    fn compare(&self, x: &Outcome) -> Ordering
+        ensures { result ≡ slot_cmp (plain_slot self.now) (slot_of (plain_outcome x.now)) }
+    {
+        self.atom
+            .cmp(&x.atom)
+            .then_with(|| self.targets.compare(&x.targets))
+            .then_with(|| self.outcome.cmp(&x.number))
+    }
+}
+
+/// Slots that rise, each once, with room for more. Contracts see them and for how many more there is room.
+#[derive(Debug, Drop)]
+pub(crate) struct Slots {
+    slots: Reserved<Slot>,
+}
+
+impl Model for Slots {
+    ghost use Rattle.std.specs.Prelude.{map, AllPairs};
+    ghost use Rattle.nego_base.specs.Room.{WithRoom};
+    ghost use Rattle.nego_expr.specs.Sorted.{PlainSlot, plain_slot, IsBelow};
+
+    ghost Value = { WithRoom PlainSlot };
+
+    ghost view = { λ s. record { items = map plain_slot s.slots.items; room = s.slots.room } };
+
+    ghost invariant = { λ s. AllPairs IsBelow (map plain_slot s.slots.items) };
+}
+
+impl Slots {
+    /// No slot, with this much room.
+    pub(crate) fn new(alloc: Global, room: usize) -> Result<Slots, Memory>
+        ensures items { IfOk result (λ s. s.items ≡ []) }
+        ensures room { IfOk result (λ s. s.room ≡ room) }
+    {
+        Ok(Slots {
+            slots: Reserved::new(alloc, room)?,
+        })
+    }
+
+    /// Makes room for at least so many more slots. On refusal all is as before.
+    pub(crate) fn reserve(&mut self, room: usize) -> Result<(), Memory>
+        ensures items { self.new.items ≡ self.old.items }
+        ensures ok { OnOk result (self.new.room ≡ max self.old.room room) }
+        ensures err { OnErr result (self.new.room ≡ self.old.room) }
+    {
+        self.slots.reserve(room)
+    }
+
+    /// The slots in their order.
+    pub(crate) fn as_slice(&self) -> &[Slot]
+        ensures items { map plain_slot result.now ≡ self.now.items }
+        ensures rise { AllPairs IsBelow (map plain_slot result.now) }
+    {
+        self.slots.as_slice()
+    }
+
+    /// Puts the slot of an outcome among them.
+    pub(crate) fn insert(&mut self, x: &Outcome)
+        requires { 0 < self.old.room }
+        ensures items { (slot : PlainSlot) → Contains self.new.items slot ↔ (Contains self.old.items slot ⊎ (slot ≡ slot_of (plain_outcome x.now))) }
+        ensures room { self.old.room ≤ self.new.room + 1 }
+    {
+        if let Err(i) = search(self.slots.as_slice(), x) {
+            self.slots.insert(i, Slot::of(x));
+        }
+    }
+
+    /// Takes the slot of an outcome away.
+    pub(crate) fn remove(&mut self, x: &Outcome)
+        requires { Contains self.old.items (slot_of (plain_outcome x.now)) }
+        ensures items { (slot : PlainSlot) → Contains self.new.items slot ↔ (Contains self.old.items slot × (slot ≢ slot_of (plain_outcome x.now))) }
+        ensures room { self.new.room ≡ self.old.room + 1 }
+    {
+        let i = search(self.slots.as_slice(), x).unwrap();
+        let _ = self.slots.remove(i);
+    }
+
+    /// Puts the slot of an outcome in the place of another's.
+    pub(crate) fn replace(&mut self, old: &Outcome, new: &Outcome)
+        requires { Contains self.old.items (slot_of (plain_outcome old.now)) }
+        ensures items { (slot : PlainSlot) → Contains self.new.items slot ↔ ((Contains self.old.items slot × (slot ≢ slot_of (plain_outcome old.now))) ⊎ (slot ≡ slot_of (plain_outcome new.now))) }
+        ensures room { self.old.room ≤ self.new.room }
+    {
+        self.remove(old);
+        self.insert(new);
+    }
+
+    /// Takes the slots of an atom away.
+    pub(crate) fn remove_atom(&mut self, n: AtomId)
+        ensures items { (slot : PlainSlot) → Contains self.new.items slot ↔ (Contains self.old.items slot × (slot.atom ≢ n.0)) }
+        ensures room { self.old.room ≤ self.new.room }
+    {
+        self.slots.retain(|s| s.atom != n);
+    }
+}
+
+/// The place of the slot of an outcome, or the place where it is to stand.
+fn search(slots: &[Slot], x: &Outcome) -> Result<usize, usize>
+    requires { AllPairs IsBelow (map plain_slot slots.now) }
+    ensures ok { IfOk result (λ i. slice_get (map plain_slot slots.now) i ≡ Some (slot_of (plain_outcome x.now))) }
+    ensures within { IfErr result (λ i. i ≤ length slots.now) }
+    ensures err { IfErr result (λ i. IsPartitionPoint (λ s. slot_cmp s (slot_of (plain_outcome x.now)) ≡ Less) (λ s. slot_cmp s (slot_of (plain_outcome x.now)) ≡ Greater) (map plain_slot slots.now) i) }
+{
+    slots.binary_search_by(|s| s.compare(x))
+}
