@@ -17,8 +17,10 @@ pub mod NodesAt
 pub mod OneAtomLeft
 pub mod Places
 pub mod Printing
+pub mod RisingLists
 pub mod Searching
 pub mod Seen
+pub mod SlotOrder
 pub mod ThenEach
 pub mod UsableWorks
 pub mod WorkEdits

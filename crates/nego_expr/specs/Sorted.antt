@@ -1,7 +1,9 @@
 -- The alive outcomes of a work in the order of their atoms, their targets and their numbers.
-use Rattle.std.specs.Prelude.{◌≡◌, ◌↔◌, ℕ, List, map, Option, Ordering, AllPairs, Contains}
+use Rattle.std.specs.Prelude.{◌≡◌, ◌↔◌, ℕ, List, map, Option, AllPairs, Contains}
 use Rattle.std.specs.Option.{option_cmp}
-use Rattle.std.specs.Ordering.{Less, nat_cmp, ordering_then}
+use Rattle.std.specs.Ordering.{nat_cmp, ordering_then}
+use Rattle.std.specs.declared.cmp.Ordering.{Ordering}
+use Rattle.std.specs.declared.cmp.Ordering.TheVariants.{Less}
 use Rattle.std.specs.Cmp.Lexicographic.{slice_cmp}
 use Rattle.nego_expr.specs.declared.slots.Slot.{Slot}
 use Rattle.nego_expr.specs.Work.{WorkOutcome}

@@ -1,6 +1,5 @@
 //! The alive outcomes of a work in the order of their atoms, their targets and their numbers.
 ghost use Rattle.std.specs.Prelude.{◌≡◌, ◌≢◌, ◌↔◌, ◌⊎◌, ◌+◌, ◌<◌, ◌≤◌, [], Some, length, map, max, slice_get, AllPairs, Contains, IfOk, IfErr, OnOk, OnErr};
-ghost use Rattle.std.specs.Ordering.{Less, Greater};
 ghost use Rattle.std.specs.List.Sorted.{IsPartitionPoint};
 ghost use Rattle.nego_expr.specs.Sorted.{PlainSlot, plain_slot, slot_of, slot_cmp, IsBelow};
 ghost use Rattle.nego_expr.specs.WorkView.{plain_outcome};
@@ -133,7 +132,7 @@ fn search(slots: &[Slot], x: &Outcome) -> Result<usize, usize>
     requires { AllPairs IsBelow (map plain_slot slots.now) }
     ensures ok { IfOk result (λ i. slice_get (map plain_slot slots.now) i ≡ Some (slot_of (plain_outcome x.now))) }
     ensures within { IfErr result (λ i. i ≤ length slots.now) }
-    ensures err { IfErr result (λ i. IsPartitionPoint (λ s. slot_cmp s (slot_of (plain_outcome x.now)) ≡ Less) (λ s. slot_cmp s (slot_of (plain_outcome x.now)) ≡ Greater) (map plain_slot slots.now) i) }
+    ensures err { IfErr result (λ i. IsPartitionPoint (λ s. slot_cmp s (slot_of (plain_outcome x.now)) ≡ Ordering.Less) (λ s. slot_cmp s (slot_of (plain_outcome x.now)) ≡ Ordering.Greater) (map plain_slot slots.now) i) }
 {
     slots.binary_search_by(|s| s.compare(x))
 }

@@ -1,0 +1,58 @@
+-- The order of slots: it is total, and tells slots apart.
+use Rattle.std.proofs.Common.{◌≡◌, ℕ, List, [], ◌∷◌, map, Bool, true, false, Option, Some, None, option_map, refl, sym, ap, ap₂, ◌∙◌}
+use Rattle.std.specs.Option.{option_cmp}
+use Rattle.std.specs.Ordering.{nat_cmp, ordering_then, is_eq}
+use Rattle.std.specs.Cmp.{IsTotalOrder}
+use Rattle.std.specs.Cmp.Derive.Mapped.{lex_map}
+use Rattle.std.specs.Cmp.Lexicographic.{slice_cmp, lists_total, options_total}
+use Rattle.std.specs.declared.cmp.Ordering.{Ordering}
+use Rattle.std.specs.declared.cmp.Ordering.TheVariants.{Less, Equal, Greater}
+use Rattle.std.proofs.lemmas.Bool.{false≢true}
+use Rattle.std.proofs.lemmas.Cmp.{nat_cmp_total, on_total, then_total}
+use Rattle.std.proofs.lemmas.Map.Lookups.{CmpEqualImpliesEq, exact_unsigned}
+use Rattle.nego_base.specs.declared.ids.AtomId.{AtomId}
+use Rattle.nego_expr.specs.Sorted.{PlainSlot, slot_cmp}
+
+pub slot_order : IsTotalOrder slot_cmp
+slot_order =
+    then_total (on_total (λ (s : PlainSlot). s.atom) nat_cmp_total)
+    (then_total (on_total (λ (s : PlainSlot). s.targets) (lists_total (options_total nat_cmp_total))) (on_total (λ (s : PlainSlot). s.outcome) nat_cmp_total))
+
+-- by the atoms' numbers targets compare as they are seen
+maybe_seen : (p q : Option AtomId) → option_cmp (λ (m n : AtomId). nat_cmp m.0 n.0) p q ≡ option_cmp nat_cmp (option_map (λ n. n.0) p) (option_map (λ n. n.0) q)
+maybe_seen None None = refl
+maybe_seen None (Some n) = refl
+maybe_seen (Some m) None = refl
+maybe_seen (Some m) (Some n) = refl
+
+pub targets_seen : (ps qs : List (Option AtomId)) →
+    slice_cmp (option_cmp (λ (m n : AtomId). nat_cmp m.0 n.0)) ps qs ≡ slice_cmp (option_cmp nat_cmp) (map (option_map (λ n. n.0)) ps) (map (option_map (λ n. n.0)) qs)
+targets_seen ps qs = ap (λ R. slice_cmp R ps qs) (λ i p q. maybe_seen p q i) ∙ sym (lex_map (option_map (λ (n : AtomId). n.0)) (option_cmp nat_cmp) ps qs)
+
+-- ---- what compares equal is equal
+
+then_parts : (a b : Ordering) → ordering_then a b ≡ Equal → (a ≡ Equal) × (b ≡ Equal)
+then_parts Less b h = absurd (false≢true (ap is_eq h))
+then_parts Equal b h = (refl, h)
+then_parts Greater b h = absurd (false≢true (ap is_eq h))
+
+exact_maybe : CmpEqualImpliesEq (option_cmp nat_cmp)
+exact_maybe None None h = refl
+exact_maybe None (Some n) h = absurd (false≢true (ap is_eq h))
+exact_maybe (Some m) None h = absurd (false≢true (ap is_eq h))
+exact_maybe (Some m) (Some n) h = ap Some (exact_unsigned m n h)
+
+exact_lists : {X : Type 0} (R : X → X → Ordering) → CmpEqualImpliesEq R → CmpEqualImpliesEq (slice_cmp R)
+exact_lists R e [] [] h = refl
+exact_lists R e [] (y ∷ ys) h = absurd (false≢true (ap is_eq h))
+exact_lists R e (x ∷ xs) [] h = absurd (false≢true (ap is_eq h))
+exact_lists R e (x ∷ xs) (y ∷ ys) h = let k = then_parts (R x y) (slice_cmp R xs ys) h in ap₂ ◌∷◌ (e x y k.0) (exact_lists R e xs ys k.1)
+
+pub exact_targets : CmpEqualImpliesEq (slice_cmp (option_cmp nat_cmp))
+exact_targets = exact_lists (option_cmp nat_cmp) exact_maybe
+
+pub exact_slots : CmpEqualImpliesEq slot_cmp
+exact_slots s t h =
+    let k = then_parts (nat_cmp s.atom t.atom) (ordering_then (slice_cmp (option_cmp nat_cmp) s.targets t.targets) (nat_cmp s.outcome t.outcome)) h in
+    let l = then_parts (slice_cmp (option_cmp nat_cmp) s.targets t.targets) (nat_cmp s.outcome t.outcome) k.1 in
+    λ i. record { atom = exact_unsigned s.atom t.atom k.0 i; targets = exact_targets s.targets t.targets l.0 i; outcome = exact_unsigned s.outcome t.outcome l.1 i }
