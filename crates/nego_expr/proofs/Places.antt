@@ -1,6 +1,6 @@
 -- Places of alive outcomes in their list, by rising number: what a search finds, and what an edit at a place does.
 use Rattle.std.proofs.Common.{◌≡◌, ◌≢◌, ⊎_elim, ℕ, zero, suc, ◌+◌, ◌<◌, ◌≤◌, ◌==◌, not, cond, Bool, true, false, List, [], ◌∷◌, length, map, option_map, slice_get, get_or, set, Some, None, Result, Ok, Err, IfSome, IfNone, refl, sym, subst, ap, ap₂, ◌∙◌, arith, ne_eqb, eq-eqb}
-use Rattle.std.specs.List.{All, filter, find, remove}
+use Rattle.std.specs.List.{All, filter, find, insert, remove}
 use Rattle.std.specs.List.Sorted.{IsSearchInRange, IsBinarySearchResult, IsNonDecreasingBy}
 use Rattle.std.specs.Result.{result_ok}
 use Rattle.std.specs.Ordering.{nat_cmp, ordering_index}
@@ -75,6 +75,48 @@ remove-place low (x ∷ xs) (suc i) y h e =
 index_rises : (a b o : ℕ) → a ≤ b → ordering_index (nat_cmp a o) ≤ ordering_index (nat_cmp b o)
 index_rises a b o h = grind (arith, nat_tests)
 
+-- ---- items, and what they are seen as
+
+module _ {X Y : Type 0} (see : X → Y) where
+  -- items that pass a test are seen as those that pass it
+  pub filter-seen : (test : Y → Bool) (xs : List X) → map see (filter (λ x. test (see x)) xs) ≡ filter test (map see xs)
+  filter-seen test [] = refl
+  filter-seen test (x ∷ xs) = go (test (see x)) (filter-seen test xs)
+    where
+      go : (b : Bool) → map see (filter (λ y. test (see y)) xs) ≡ filter test (map see xs) →
+          map see (cond b (x ∷ filter (λ y. test (see y)) xs) (filter (λ y. test (see y)) xs)) ≡ cond b (see x ∷ filter test (map see xs)) (filter test (map see xs))
+      go true k = ap (◌∷◌ (see x)) k
+      go false k = k
+
+  -- the first that passes a test is seen as the first that does
+  pub find-seen : (test : Y → Bool) (xs : List X) → option_map see (find (λ x. test (see x)) xs) ≡ find test (map see xs)
+  find-seen test [] = refl
+  find-seen test (x ∷ xs) = go (test (see x)) (find-seen test xs)
+    where
+      go : (b : Bool) → option_map see (find (λ y. test (see y)) xs) ≡ find test (map see xs) → option_map see (cond b (Some x) (find (λ y. test (see y)) xs)) ≡ cond b (Some (see x)) (find test (map see xs))
+      go true k = refl
+      go false k = k
+
+  -- they are as many
+  pub length-filter_seen : (test : Y → Bool) (xs : List X) → length (filter (λ x. test (see x)) xs) ≡ length (filter test (map see xs))
+  length-filter_seen test xs = sym (length-map (filter (λ x. test (see x)) xs) see) ∙ ap length (filter-seen test xs)
+
+  -- items without the one at a place
+  pub remove-seen : (xs : List X) (i : ℕ) → map see (remove xs i) ≡ remove (map see xs) i
+  remove-seen [] zero = refl
+  remove-seen [] (suc i) = refl
+  remove-seen (x ∷ xs) zero = refl
+  remove-seen (x ∷ xs) (suc i) = ap (◌∷◌ (see x)) (remove-seen xs i)
+
+  -- items with one more at a place
+  pub insert-seen : (xs : List X) (i : ℕ) (y : X) → map see (insert xs i y) ≡ insert (map see xs) i (see y)
+  insert-seen [] zero y = refl
+  insert-seen [] (suc i) y = refl
+  insert-seen (x ∷ xs) zero y = refl
+  insert-seen (x ∷ xs) (suc i) y = ap (◌∷◌ (see x)) (insert-seen xs i y)
+
+-- ---- outcomes
+
 module _ {X : Type 0} (see : X → WorkOutcome) where
   -- numbers that rise from a low one are not below it
   places_above : (low : ℕ) (xs : List X) → RisesFrom low (numbers_of (map see xs)) → (j : ℕ) (d : X) → j < length xs → low ≤ (see (get_or xs j d)).number
@@ -129,36 +171,6 @@ module _ {X : Type 0} (see : X → WorkOutcome) where
   pub All-item : (P : WorkOutcome → Type 0) (xs : List X) (i : ℕ) (x : X) → i < length xs → x ≡ get_or xs i x → All P (map see xs) → P (see x)
   All-item P xs i x l is h = All-at_place P (map see xs) i (see x) h (slice_get-map see xs i ∙ ap (option_map see) (slice_get_read xs (length xs) i x refl l is))
 
-  -- items that pass a test are seen as the outcomes that pass it
-  pub filter-seen : (test : WorkOutcome → Bool) (xs : List X) → map see (filter (λ x. test (see x)) xs) ≡ filter test (map see xs)
-  filter-seen test [] = refl
-  filter-seen test (x ∷ xs) = go (test (see x)) (filter-seen test xs)
-    where
-      go : (b : Bool) → map see (filter (λ y. test (see y)) xs) ≡ filter test (map see xs) →
-          map see (cond b (x ∷ filter (λ y. test (see y)) xs) (filter (λ y. test (see y)) xs)) ≡ cond b (see x ∷ filter test (map see xs)) (filter test (map see xs))
-      go true k = ap (◌∷◌ (see x)) k
-      go false k = k
-
-  -- the first that passes a test is seen as the first that does
-  pub find-seen : (test : WorkOutcome → Bool) (xs : List X) → option_map see (find (λ x. test (see x)) xs) ≡ find test (map see xs)
-  find-seen test [] = refl
-  find-seen test (x ∷ xs) = go (test (see x)) (find-seen test xs)
-    where
-      go : (b : Bool) → option_map see (find (λ y. test (see y)) xs) ≡ find test (map see xs) → option_map see (cond b (Some x) (find (λ y. test (see y)) xs)) ≡ cond b (Some (see x)) (find test (map see xs))
-      go true k = refl
-      go false k = k
-
-  -- they are as many
-  pub length-filter_seen : (test : WorkOutcome → Bool) (xs : List X) → length (filter (λ x. test (see x)) xs) ≡ length (filter test (map see xs))
-  length-filter_seen test xs = sym (length-map (filter (λ x. test (see x)) xs) see) ∙ ap length (filter-seen test xs)
-
-  -- items without the one at a place
-  remove-seen : (xs : List X) (i : ℕ) → map see (remove xs i) ≡ remove (map see xs) i
-  remove-seen [] zero = refl
-  remove-seen [] (suc i) = refl
-  remove-seen (x ∷ xs) zero = refl
-  remove-seen (x ∷ xs) (suc i) = ap (◌∷◌ (see x)) (remove-seen xs i)
-
   -- an item of its number put at the place of an outcome is seen as this outcome being another now
   pub set-found : (xs : List X) (o i : ℕ) (x y : X) → IsRising (numbers_of (map see xs)) → i < length xs → x ≡ get_or xs i x →
       option_map see (slice_get xs i) ≡ outcome_among (map see xs) o → (see y).number ≡ o → map see (set xs i y) ≡ with_outcome (see y) (map see xs)
@@ -173,5 +185,5 @@ module _ {X : Type 0} (see : X → WorkOutcome) where
       map see (remove xs i) ≡ filter (λ z. not (z.number == o)) (map see xs)
   remove-found xs o i x rise item found =
       let has : (see x).number ≡ o = found-number (map see xs) o (see x) (sym found ∙ ap (option_map see) item) in
-      remove-seen xs i ∙ (remove-place 0 (map see xs) i (see x) rise (slice_get-map see xs i ∙ ap (option_map see) item)
+      remove-seen see xs i ∙ (remove-place 0 (map see xs) i (see x) rise (slice_get-map see xs i ∙ ap (option_map see) item)
       ∙ ap (λ n. filter (λ z. not (z.number == n)) (map see xs)) has)

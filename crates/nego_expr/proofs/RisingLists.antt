@@ -1,16 +1,17 @@
 -- Lists that rise by a total order: where an item stands or is to stand, what is in them after an edit, and that they are
 -- known by what is in them.
-use Rattle.std.proofs.Common.{◌≡◌, ◌≢◌, ◌↔◌, ◌⊎◌, inl, inr, ⊎_elim, ℕ, zero, suc, ◌+◌, ◌<◌, ◌≤◌, List, [], ◌∷◌, ◌++◌, Bool, true, false, length, take, drop, map, option_map, slice_get, get_or, Some, Result, Ok, Err, IfOk, IfErr, refl, sym, subst, ap, ap₂, ◌∙◌, arith}
-use Rattle.std.specs.List.{All, AllPairs, AllWithin, Contains, insert, remove}
+use Rattle.std.proofs.Common.{◌≡◌, ◌≢◌, ◌↔◌, ◌⊎◌, inl, inr, ⊎_elim, ℕ, zero, suc, ◌+◌, ◌<◌, ◌≤◌, List, [], ◌∷◌, ◌++◌, Bool, true, false, cond, IsTrue, length, take, drop, map, option_map, slice_get, get_or, Some, Result, Ok, Err, IfOk, IfErr, refl, sym, subst, ap, ap₂, ◌∙◌, arith}
+use Rattle.std.specs.List.{All, AllPairs, Contains, filter, insert, remove}
 use Rattle.std.specs.List.Sorted.{IsNonDecreasingBy, IsPartitionPoint, IsSearchInRange, IsBinarySearchResult}
+use Rattle.std.specs.Result.{IsOk}
 use Rattle.std.specs.Cmp.{IsTotalOrder}
 use Rattle.std.specs.Ordering.{ordering_index, ordering_reverse}
 use Rattle.std.specs.declared.cmp.Ordering.{Ordering}
 use Rattle.std.specs.declared.cmp.Ordering.TheVariants.{Less, Equal, Greater}
-use Rattle.std.proofs.lemmas.Bool.{true≢false, cases_lt}
+use Rattle.std.proofs.lemmas.Bool.{true≢false, cond-true, cases_lt}
 use Rattle.std.proofs.lemmas.Cmp.{tied_itself}
 use Rattle.std.proofs.lemmas.List.{take-append-drop, length-map, get_or-map}
-use Rattle.std.proofs.lemmas.List.Elements.{All-nil, All-cons, All-head, All-tail, All-append, All-contains, Contains-get_or, Contains-append_left, Contains-append_right, Contains-append_cases}
+use Rattle.std.proofs.lemmas.List.Elements.{All-nil, All-cons, All-append, All-contains, filter_passes, Contains-get_or, Contains-append_left, Contains-append_right, Contains-append_cases}
 use Rattle.std.proofs.lemmas.List.Kept.{AllPairs-cons}
 use Rattle.std.proofs.lemmas.Map.Lookups.{CmpEqualImpliesEq}
 use Rattle.std.proofs.lemmas.Option.{none-some, same_Some, slice_get-map, slice_get_cases}
@@ -58,6 +59,37 @@ module _ {X : Type 0} where
   parted [] i y h = absurd (none-some y h)
   parted (x ∷ xs) zero y h = ap (λ z. z ∷ xs) (sym (same_Some x y h))
   parted (x ∷ xs) (suc i) y h = ap (◌∷◌ x) (parted xs i y h)
+
+  -- the item at a place is one of the list
+  pub Contains-place : (xs : List X) (i : ℕ) (y : X) → slice_get xs i ≡ Some y → Contains xs y
+  Contains-place xs i y h = subst (λ l. Contains l y) (parted xs i y h) (between_itself (take i xs) (drop (suc i) xs) y)
+
+  -- items that pass a test are of the list
+  Contains-passing : (test : X → Bool) (xs : List X) (x : X) → Contains (filter test xs) x → Contains xs x
+  Contains-passing test [] x c = c
+  Contains-passing test (y ∷ ys) x c = go (test y) (Contains-passing test ys x) c
+    where
+      go : (b : Bool) → (Contains (filter test ys) x → Contains ys x) → Contains (cond b (y ∷ filter test ys) (filter test ys)) x → Contains (y ∷ ys) x
+      go true more d = ⊎_elim (λ e. subst (Contains (y ∷ ys)) (sym e) (Contains-head y ys)) (λ q. Contains-tail y ys x (more q)) (Contains-cases y (filter test ys) x d)
+      go false more d = Contains-tail y ys x (more d)
+
+  -- what a list contains of the items that pass a test
+  pub Contains-filter : (test : X → Bool) (xs : List X) (x : X) → Contains (filter test xs) x ↔ (Contains xs x × IsTrue (test x))
+  Contains-filter test xs x = (
+    λ c. (Contains-passing test xs x c, All-contains (λ y. IsTrue (test y)) (filter test xs) x (filter_passes test xs) c),
+    λ c. kept xs c.0 c.1,
+  )
+    where
+      kept : (ys : List X) → Contains ys x → IsTrue (test x) → Contains (filter test ys) x
+      kept [] c t = c
+      kept (y ∷ ys) c t = ⊎_elim
+          (λ e. subst (λ l. Contains l x) (sym (cond-true (test y) (y ∷ filter test ys) (filter test ys) (subst (λ z. IsTrue (test z)) e t))) (subst (Contains (y ∷ filter test ys)) (sym e) (Contains-head y (filter test ys))))
+          (λ q. go (test y) (kept ys q t))
+          (Contains-cases y ys x c)
+        where
+          go : (b : Bool) → Contains (filter test ys) x → Contains (cond b (y ∷ filter test ys) (filter test ys)) x
+          go true d = Contains-tail y (filter test ys) x d
+          go false d = d
 
 -- ---- lists that rise
 
@@ -157,9 +189,9 @@ module _ {X : Type 0} (R : X → X → Ordering) (o : IsTotalOrder R) where
     where
       at : (y : Y) × (i < length ys) × (slice_get ys i ≡ Some y) × (get_or ys i y ≡ y) → slice_get (map see ys) i ≡ Some k
       at q = slice_get-map see ys i ∙ (ap (option_map see) q.2 ∙ ap Some (exact (see q.0) k (subst (λ y. R (see y) k ≡ Equal) q.3 (equal q.0))))
-  searched {Y} see exact ys k (Err i) rise within parts = (tt, within,
+  searched {Y} see exact ys k (Err i) rise within parts = (tt, (within, (
     λ j d low lt. seen (λ x. R x k ≡ Less) j d (omega (arith, lt, within)) (λ e. (parts rising).0 j e low lt),
-    λ j d low lt. let l : j < length ys = omega (arith, lt, length-map ys see) in seen (λ x. R x k ≡ Greater) j d l (λ e. (parts rising).1 j e low l))
+    λ j d low lt. let l : j < length ys = omega (arith, lt, length-map ys see) in seen (λ x. R x k ≡ Greater) j d l (λ e. (parts rising).1 j e low l))))
     where
       rising : IsNonDecreasingBy (λ y. ordering_index (R (see y) k)) ys
       rising a b d le lt =
@@ -170,6 +202,11 @@ module _ {X : Type 0} (R : X → X → Ordering) (o : IsTotalOrder R) where
 
       seen : (P : X → Type 0) (j : ℕ) (d : X) → j < length ys → ((e : Y) → P (see (get_or ys j e))) → P (get_or (map see ys) j d)
       seen P j d lt h = ⊎_elim (λ q. subst P (sym (get_or-map see ys j q.0 d lt)) (h q.0)) (λ past. absurd (omega (arith, past.0, lt))) (slice_get_cases ys j).1
+
+  -- a search that may say where one is to stand finds it where the list contains it
+  pub found_there : (xs : List X) (y : X) (r : Result ℕ ℕ) → Contains xs y → IfErr r (IsPartitionPoint (λ x. R x y ≡ Less) (λ x. R x y ≡ Greater) xs) → IsOk r
+  found_there xs y (Ok i) c h = refl
+  found_there xs y (Err i) c h = absurd (none_between xs i y h c)
 
   -- lists that rise and contain the same are one
   pub rising_lists_are_one : (xs ys : List X) → AllPairs Below xs → AllPairs Below ys → ((x : X) → Contains xs x ↔ Contains ys x) → xs ≡ ys
