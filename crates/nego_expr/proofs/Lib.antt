@@ -21,6 +21,7 @@ pub mod RisingLists
 pub mod Searching
 pub mod Seen
 pub mod SlotOrder
+pub mod SlotsOf
 pub mod ThenEach
 pub mod UsableWorks
 pub mod WorkEdits

@@ -1,5 +1,5 @@
 //! The alive outcomes of a work in the order of their atoms, their targets and their numbers.
-ghost use Rattle.std.specs.Prelude.{◌≡◌, ◌≢◌, ◌↔◌, ◌⊎◌, ◌+◌, ◌<◌, ◌≤◌, [], Some, length, map, max, slice_get, AllPairs, Contains, IfOk, IfErr, OnOk, OnErr};
+ghost use Rattle.std.specs.Prelude.{◌≡◌, ◌≢◌, ◌↔◌, ◌⊎◌, ◌+◌, ◌-◌, ◌<◌, ◌≤◌, [], Some, length, map, max, slice_get, AllPairs, Contains, IfOk, IfErr, OnOk, OnErr};
 ghost use Rattle.std.specs.List.Sorted.{IsPartitionPoint};
 ghost use Rattle.nego_expr.specs.Sorted.{PlainSlot, plain_slot, slot_of, slot_cmp, IsBelow};
 ghost use Rattle.nego_expr.specs.WorkView.{plain_outcome};
@@ -91,7 +91,8 @@ impl Slots {
     pub(crate) fn insert(&mut self, x: &Outcome)
         requires { 0 < self.old.room }
         ensures items { (slot : PlainSlot) → Contains self.new.items slot ↔ (Contains self.old.items slot ⊎ (slot ≡ slot_of (plain_outcome x.now))) }
-        ensures room { self.old.room ≤ self.new.room + 1 }
+        ensures room { (Contains self.old.items (slot_of (plain_outcome x.now)) → ⊥) → self.new.room ≡ self.old.room - 1 }
+        ensures kept { self.old.room ≤ self.new.room + 1 }
     {
         if let Err(i) = search(self.slots.as_slice(), x) {
             self.slots.insert(i, Slot::of(x));

@@ -32,9 +32,16 @@ returns-in-Err-clause-items c =
     let y = slot_of (plain_outcome c.args.x.now) in
     rw (← c.self.view_is) (λ slot. subst (λ l. Contains l slot ↔ (Contains xs slot ⊎ (slot ≡ y))) (sym (after c)) (Contains-insert xs c.in-Err.i y slot))
 
-pub returns-in_default-clause-items : goal.returns-in_default-clause-items
-returns-in_default-clause-items c =
+-- the slot that is found is one of them
+there : (c : goal.In_default) → Contains (map plain_slot c.self.inside.slots.items) (slot_of (plain_outcome c.args.x.now))
+there c =
     let y = slot_of (plain_outcome c.args.x.now) in
     let At : List Slot → Type 0 = λ xs. slice_get (map plain_slot xs) c.in_default.field-0 ≡ Some y in
-    let there = Contains-place (map plain_slot c.self.inside.slots.items) c.in_default.field-0 y (subst At c.as_slice.ensures c.in_default.ensures.ok) in
-    rw (← c.self.view_is) (λ slot. (λ h. inl h, λ h. ⊎_elim (λ k. k) (λ e. subst (Contains (map plain_slot c.self.inside.slots.items)) (sym e) there) h))
+    Contains-place (map plain_slot c.self.inside.slots.items) c.in_default.field-0 y (subst At c.as_slice.ensures c.in_default.ensures.ok)
+
+pub returns-in_default-clause-items : goal.returns-in_default-clause-items
+returns-in_default-clause-items c =
+    rw (← c.self.view_is) (λ slot. (λ h. inl h, λ h. ⊎_elim (λ k. k) (λ e. subst (Contains (map plain_slot c.self.inside.slots.items)) (sym e) (there c)) h))
+
+pub returns-in_default-clause-room : goal.returns-in_default-clause-room
+returns-in_default-clause-room c = rw (← c.self.view_is) (λ none. absurd (none (there c)))

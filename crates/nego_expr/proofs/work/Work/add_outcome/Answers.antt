@@ -1,8 +1,10 @@
-use Rattle.std.proofs.Common.{◌≡◌, ◌+◌, ◌<◌, ◌∙◌, [], ◌∷◌, ◌++◌, length, map, sym, subst, ap, arith}
+use Rattle.std.proofs.Common.{◌≡◌, ◌+◌, ◌-◌, ◌<◌, ◌∙◌, [], ◌∷◌, ◌++◌, length, map, refl, sym, subst, ap, arith}
 use Rattle.std.proofs.lemmas.List.{map-append}
 use Rattle.nego_expr.specs.Work.{WorkOutcome}
 use Rattle.nego_expr.specs.Room.{RoomyWork}
+use Rattle.nego_expr.specs.Sorted.{AreSlotsOf}
 use Rattle.nego_expr.specs.WorkView.{plain_outcome, AreAlive}
+use Rattle.nego_expr.proofs.SlotsOf.{slots-add, unused_slot}
 use Rattle.nego_expr.proofs.UsableWorks.{alive-add}
 use Rattle.nego_expr.proofs.work.Work.add_outcome.Goals as goal
 
@@ -24,4 +26,11 @@ invariant_of-self c =
           (alive-add w.agents w.numbers (length w.nodes.nodes) ys c.self.invariant.alive c.args.n.0 c.args.targets c.args.node.0 c.args.passed
           (subst fit (sym c.self.view_is) c.requires.fit) (subst there (sym c.self.view_is) c.requires.there));
       few_numbers = omega (arith, more);
+      sorted = subst (λ os. AreSlotsOf os c.insert.new.self.items) (sym seen) (slots-add ys new w.slots.items c.insert.new.self.items c.self.invariant.sorted c.insert.ensures.items);
     }
+
+pub returns-clause-spare : goal.returns-clause-spare
+returns-clause-spare c =
+    let w = c.self.inside in
+    let fewer : c.insert.new.self.room ≡ w.slots.room - 1 = c.insert.ensures.room (unused_slot (map plain_outcome w.outcomes.items) w.numbers c.self.invariant.alive.used w.slots.items c.self.invariant.sorted _ refl) in
+    rw (← c.self.view_is) (omega (arith, fewer, c.push.ensures.room))

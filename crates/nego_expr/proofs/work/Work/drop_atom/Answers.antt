@@ -6,8 +6,10 @@ use Rattle.std.proofs.lemmas.List.Filters.{length-filter_both}
 use Rattle.nego_base.proofs.Members.{All-member}
 use Rattle.nego_expr.specs.declared.outcome.Outcome.{Outcome}
 use Rattle.nego_expr.specs.Work.{WorkAtom, WorkOutcome}
+use Rattle.nego_expr.specs.Sorted.{AreSlotsOf}
 use Rattle.nego_expr.specs.WorkView.{plain_outcome, plain_work, atom_among, AreAlive}
 use Rattle.nego_expr.proofs.Places.{filter-seen}
+use Rattle.nego_expr.proofs.SlotsOf.{slots-without_atom}
 use Rattle.nego_expr.proofs.UsableWorks.{left_there, atoms-without, alive-filter}
 use Rattle.nego_expr.proofs.work.Work.drop_atom.Goals as goal
 
@@ -20,11 +22,11 @@ without-self-inside-requires c =
     omega (arith, below, few)
 
 -- the items that are kept
-kept : (c : goal.After-retain) → c.retain.new.self.items ≡ filter (λ (x : Outcome). not (x.atom.0 == c.args.n.0)) c.self.inside.outcomes.items
+kept : (c : goal.After-remove_atom) → c.retain.new.self.items ≡ filter (λ (x : Outcome). not (x.atom.0 == c.args.n.0)) c.self.inside.outcomes.items
 kept c = filter_same _ (λ (x : Outcome). not (x.atom.0 == c.args.n.0)) _ (λ x b f called. search rules) _ _ c.retain.ensures.items
 
 -- the outcomes after the edit
-after : (c : goal.After-retain) → map plain_outcome c.retain.new.self.items ≡ filter (λ x. not (x.atom == c.args.n.0)) (map plain_outcome c.self.inside.outcomes.items)
+after : (c : goal.After-remove_atom) → map plain_outcome c.retain.new.self.items ≡ filter (λ x. not (x.atom == c.args.n.0)) (map plain_outcome c.self.inside.outcomes.items)
 after c = ap (map plain_outcome) (kept c) ∙ filter-seen plain_outcome (λ x. not (x.atom == c.args.n.0)) c.self.inside.outcomes.items
 
 pub invariant_of-self : goal.invariant_of-self
@@ -38,6 +40,8 @@ invariant_of-self c =
       alive = subst (AreAlive w.agents w.numbers (length w.nodes.nodes)) (sym (after c))
           (alive-filter w.agents w.numbers (length w.nodes.nodes) (map plain_outcome w.outcomes.items) c.self.invariant.alive (λ x. not (x.atom == c.args.n.0)));
       few_numbers = c.self.invariant.few_numbers;
+      sorted = subst (λ os. AreSlotsOf os c.remove_atom.new.self.items) (sym (after c))
+          (slots-without_atom c.args.n.0 (map plain_outcome w.outcomes.items) w.slots.items c.remove_atom.new.self.items c.self.invariant.sorted c.remove_atom.ensures.items);
     }
 
 pub returns-clause-plain : goal.returns-clause-plain
@@ -51,4 +55,4 @@ returns-clause-kept c =
     let all = length-filter_both (λ (x : Outcome). not (x.atom.0 == c.args.n.0)) (λ x. not (not (x.atom.0 == c.args.n.0))) (λ x. refl) c.self.inside.outcomes.items in
     let same = ap length (kept c) in
     let more : c.self.inside.outcomes.room ≤ c.retain.new.self.room = omega (arith, all, same, c.retain.ensures.room) in
-    rw (← c.self.view_is) (omega arith, omega (arith, more))
+    rw (← c.self.view_is) (omega arith, omega (arith, more, c.remove_atom.ensures.room))

@@ -1,63 +1,80 @@
-use Rattle.std.proofs.Common.{◌≡◌, ℕ, ◌<◌, List, refl, Option, Some, length, map, option_map, slice_get, slice_index_or, sym, subst, ap, ap₂, IfSome, ◌∙◌}
+use Rattle.std.proofs.Common.{◌≡◌, ◌≢◌, ◌↔◌, ◌⊎◌, ◌<◌, ℕ, List, refl, Option, Some, length, map, option_map, slice_get, slice_index_or, sym, subst, ap, IfSome, ◌∙◌}
 use Rattle.std.proofs.lemmas.Option.{slice_get_read}
+use Rattle.std.specs.List.{Contains}
 use Rattle.nego_expr.specs.declared.outcome.Outcome.{Outcome}
 use Rattle.nego_expr.specs.Work.{WorkOutcome, outcome_among}
 use Rattle.nego_expr.specs.Edits.{with_outcome}
 use Rattle.nego_expr.specs.Room.{RoomyWork}
+use Rattle.nego_expr.specs.Sorted.{PlainSlot, slot_of, AreSlotsOf}
 use Rattle.nego_expr.specs.WorkView.{plain_outcome, plain_work, AreAlive}
 use Rattle.nego_expr.proofs.Places.{set-found}
 use Rattle.nego_expr.proofs.WorkEdits.{All-found, found-number}
+use Rattle.nego_expr.proofs.SlotsOf.{slot-found, slots-set}
 use Rattle.nego_expr.proofs.UsableWorks.{alive-set}
 use Rattle.nego_expr.proofs.work.Work.set_outcome.Goals as goal
+use Rattle.nego_expr.proofs.work.Work.set_outcome.Goals.{After-index-outcomes-i}
 
 -- the outcome that is set
-abbrev old : goal.After-set → WorkOutcome
+abbrev old : After-index-outcomes-i → WorkOutcome
 old c = plain_outcome c.index-outcomes-i.result
 
-abbrev new : goal.After-set → WorkOutcome
+abbrev new : After-index-outcomes-i → WorkOutcome
 new c = record (old c) { targets = c.args.targets; node = c.args.node.0; passed = c.args.passed }
 
-there : (c : goal.After-set) → c.unwrap-i.result < length c.self.inside.outcomes.items
+there : (c : After-index-outcomes-i) → c.unwrap-i.result < length c.self.inside.outcomes.items
 there c = subst (λ (xs : List Outcome). c.unwrap-i.result < length xs) c.as_slice-outcomes.ensures
     (subst (λ (r : Option ℕ). IfSome r (λ k. k < length c.as_slice-outcomes.result.now)) c.unwrap-i.ensures c.place_of.ensures.there)
 
-place : (c : goal.After-set) → option_map plain_outcome (slice_get c.self.inside.outcomes.items c.unwrap-i.result) ≡ outcome_among (map plain_outcome c.self.inside.outcomes.items) c.args.o.0
+place : (c : After-index-outcomes-i) → option_map plain_outcome (slice_get c.self.inside.outcomes.items c.unwrap-i.result) ≡ outcome_among (map plain_outcome c.self.inside.outcomes.items) c.args.o.0
 place c = subst (λ (xs : List Outcome). option_map plain_outcome (slice_get xs c.unwrap-i.result) ≡ outcome_among (map plain_outcome xs) c.args.o.0) c.as_slice-outcomes.ensures
     (subst (λ (r : Option ℕ). IfSome r (λ k. option_map plain_outcome (slice_get c.as_slice-outcomes.result.now k) ≡ outcome_among (map plain_outcome c.as_slice-outcomes.result.now) c.args.o.0)) c.unwrap-i.ensures c.place_of.ensures.found)
 
-read : (c : goal.After-set) → c.index-outcomes-i.result ≡ slice_index_or c.self.inside.outcomes.items c.unwrap-i.result c.index-outcomes-i.result
+read : (c : After-index-outcomes-i) → c.index-outcomes-i.result ≡ slice_index_or c.self.inside.outcomes.items c.unwrap-i.result c.index-outcomes-i.result
 read c = subst (λ (xs : List Outcome). c.index-outcomes-i.result ≡ slice_index_or xs c.unwrap-i.result c.index-outcomes-i.result) c.as_slice-outcomes.ensures c.index-outcomes-i.is
 
-found : (c : goal.After-set) → outcome_among (map plain_outcome c.self.inside.outcomes.items) c.args.o.0 ≡ Some (old c)
+found : (c : After-index-outcomes-i) → outcome_among (map plain_outcome c.self.inside.outcomes.items) c.args.o.0 ≡ Some (old c)
 found c = sym (place c) ∙ ap (option_map plain_outcome) (slice_get_read c.self.inside.outcomes.items (length c.self.inside.outcomes.items) c.unwrap-i.result c.index-outcomes-i.result refl (there c) (read c))
 
 -- the outcomes after the edit
-after : (c : goal.After-set) → map plain_outcome c.set.new.self.items ≡ with_outcome (new c) (map plain_outcome c.self.inside.outcomes.items)
+after : (c : goal.After-set) → map plain_outcome c.set.new.self.items ≡ with_outcome (new (goal.at.invariant_of-self c).After-index-outcomes-i) (map plain_outcome c.self.inside.outcomes.items)
 after c =
+    let b = (goal.at.invariant_of-self c).After-index-outcomes-i in
     let items = c.self.inside.outcomes.items in
-    let y : Outcome = record { number = c.args.o; atom = (slice_index_or c.as_slice-outcomes.result.now c.unwrap-i.result c.index-outcomes-i.result).atom; targets = c.args.targets; node = c.args.node; passed = c.args.passed } in
+    let y : Outcome = record { number = c.args.o; atom = c.index-outcomes-i.result.atom; targets = c.args.targets; node = c.args.node; passed = c.args.passed } in
     ap (map plain_outcome) c.set.ensures.items
-    ∙ (set-found plain_outcome items c.args.o.0 c.unwrap-i.result c.index-outcomes-i.result y c.self.invariant.alive.rising (there c) (read c) (place c) refl
-    ∙ ap₂ (λ n m. with_outcome (record (new c) { number = n; atom = m }) (map plain_outcome items)) (sym (found-number (map plain_outcome items) c.args.o.0 (old c) (found c))) (ap (λ (z : Outcome). z.atom.0) (sym c.index-outcomes-i.is)))
+    ∙ (set-found plain_outcome items c.args.o.0 c.unwrap-i.result c.index-outcomes-i.result y c.self.invariant.alive.rising (there b) (read b) (place b) refl
+    ∙ ap (λ n. with_outcome (record (new b) { number = n }) (map plain_outcome items)) (sym (found-number (map plain_outcome items) c.args.o.0 (old b) (found b))))
+
+pub replace-requires : goal.replace-requires
+replace-requires c =
+    let w = c.self.inside in
+    let b = (goal.at.replace-requires c).After-index-outcomes-i in
+    slot-found (map plain_outcome w.outcomes.items) c.self.invariant.alive.rising c.args.o.0 (old b) (found b) w.slots.items c.self.invariant.sorted
 
 pub invariant_of-self : goal.invariant_of-self
 invariant_of-self c =
+    let b = (goal.at.invariant_of-self c).After-index-outcomes-i in
     let w = c.self.inside in
     let outcomes = map plain_outcome w.outcomes.items in
     let fit = λ (v : RoomyWork). length c.args.targets ≡ v.plain.agents in
     let node = λ (v : RoomyWork). c.args.node.0 < length v.plain.nodes in
+    let same : (old b).number ≡ c.args.o.0 = found-number outcomes c.args.o.0 (old b) (found b) in
     record {
       few_agents = c.self.invariant.few_agents;
       few_atoms = c.self.invariant.few_atoms;
       left_below = c.self.invariant.left_below;
       alive = subst (AreAlive w.agents w.numbers (length w.nodes.nodes)) (sym (after c))
-          (alive-set w.agents w.numbers (length w.nodes.nodes) outcomes c.self.invariant.alive (new c) (All-found (λ x. x.number < w.numbers) outcomes c.args.o.0 (old c) c.self.invariant.alive.used (found c))
+          (alive-set w.agents w.numbers (length w.nodes.nodes) outcomes c.self.invariant.alive (new b) (All-found (λ x. x.number < w.numbers) outcomes c.args.o.0 (old b) c.self.invariant.alive.used (found b))
           (subst fit (sym c.self.view_is) c.requires.fit) (subst node (sym c.self.view_is) c.requires.there));
       few_numbers = c.self.invariant.few_numbers;
+      sorted = subst (λ os. AreSlotsOf os c.replace.new.self.items) (sym (after c))
+          (slots-set outcomes c.self.invariant.alive.rising c.args.o.0 (old b) (found b) w.slots.items c.self.invariant.sorted (new b) same c.replace.new.self.items
+          (subst (λ n. (slot : PlainSlot) → Contains c.replace.new.self.items slot ↔ ((Contains w.slots.items slot × (slot ≢ slot_of (old b))) ⊎ (slot ≡ slot_of (record (new b) { number = n })))) (sym same) c.replace.ensures.items));
     }
 
 pub returns-clause-plain : goal.returns-clause-plain
 returns-clause-plain c =
+    let b = (goal.at.invariant_of-self c).After-index-outcomes-i in
     let w = plain_work c.self.inside in
     rw (← c.self.view_is) (ap (λ outcomes. Some (record w { outcomes = outcomes })) (after c)
-    ∙ sym (ap (option_map (λ x. record w { outcomes = with_outcome (record x { targets = c.args.targets; node = c.args.node.0; passed = c.args.passed }) w.outcomes })) (found c)))
+    ∙ sym (ap (option_map (λ x. record w { outcomes = with_outcome (record x { targets = c.args.targets; node = c.args.node.0; passed = c.args.passed }) w.outcomes })) (found b)))

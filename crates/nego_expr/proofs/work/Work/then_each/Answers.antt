@@ -1,5 +1,8 @@
-use Rattle.std.proofs.Common.{map}
+use Rattle.std.proofs.Common.{◌↔◌, length, map, sym, subst, ap, ◌∙◌}
+use Rattle.std.specs.List.{Contains}
+use Rattle.nego_expr.specs.Sorted.{PlainSlot, slot_of}
 use Rattle.nego_expr.specs.WorkView.{plain_outcome}
+use Rattle.nego_expr.proofs.SlotsOf.{slots-with_nodes_at}
 use Rattle.nego_expr.proofs.UsableWorks.{alive-then_each}
 use Rattle.nego_expr.proofs.work.Work.then_each.Goals as goal
 
@@ -13,4 +16,6 @@ invariant_of-self c =
       alive = rw (c.then_each.ensures.nodes, c.then_each.ensures.outcomes)
           (alive-then_each w.agents w.numbers c.args.x.0 c.args.n.0 w.nodes.nodes (map plain_outcome w.outcomes.items) c.self.invariant.alive);
       few_numbers = c.self.invariant.few_numbers;
+      sorted = subst (λ l. (slot : PlainSlot) → Contains w.slots.items slot ↔ Contains l slot)
+          (sym (ap (map slot_of) c.then_each.ensures.outcomes ∙ slots-with_nodes_at c.args.n.0 (length w.nodes.nodes) (map plain_outcome w.outcomes.items))) c.self.invariant.sorted;
     }
