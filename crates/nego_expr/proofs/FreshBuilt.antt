@@ -13,6 +13,7 @@ use Rattle.nego_model.specs.Limits.{IsWithinLimits}
 use Rattle.nego_model.specs.Summary.{final_outcomes}
 use Rattle.nego_expr.specs.declared.work.Work.TheInside.{Inside}
 use Rattle.nego_expr.specs.Fresh.{atoms_from, fresh_work, outcomes_of}
+use Rattle.nego_expr.specs.Sorted.{AreSlotsOf}
 use Rattle.nego_expr.specs.WorkView.{AreAlive, IsUsable, atom_among, plain_outcome, plain_work}
 use Rattle.nego_expr.proofs.FreshLists.{rises-range, numbers-outcomes_of, All-outcomes_of}
 use Rattle.nego_expr.proofs.FreshSteps.{atoms_among-from}
@@ -28,6 +29,7 @@ pub record IsBuilt (diagram : PlainDiagram) (w : Inside) : Type 0 where
   pub room : w.nodes.room ≡ 0
   pub numbers : w.numbers ≡ length diagram.outcomes
   pub outcomes : map plain_outcome w.outcomes.items ≡ outcomes_of diagram 0 diagram.outcomes
+  pub slots : AreSlotsOf (map plain_outcome w.outcomes.items) w.slots.items
   pub names : w.names ≡ map (outcome_name diagram) (final_outcomes diagram)
   pub bases : w.bases ≡ map (λ outcome. parties_of diagram outcome.atom) diagram.outcomes
 
@@ -77,4 +79,5 @@ module _ (diagram : PlainDiagram) (w : Inside) (built : IsBuilt diagram w) where
             (All-weaker (λ n. n < length diagram.atoms) (λ n. n < length w.parties) (λ n h. omega (arith, h, atoms)) (range_with_len 0 (length diagram.atoms)) (below-range (length diagram.atoms)));
         alive = subst (λ n. AreAlive w.agents w.numbers n (map plain_outcome w.outcomes.items)) (sym nodes) (subst (λ n. AreAlive w.agents n count (map plain_outcome w.outcomes.items)) (sym built.numbers) agents_alive);
         few_numbers = omega (arith, built.numbers, limits.few_outcomes);
+        sorted = built.slots;
       }

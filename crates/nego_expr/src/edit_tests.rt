@@ -42,11 +42,46 @@ fn edits_follow_one_another(rt: HostRuntime) -> Result<(), Fail> {
         AtomSet::none().with(FIRST),
     );
     assert!(rt; w.alive(p) && w.node_of(p) == star && w.passed(p).has(FIRST));
+    assert!(rt; is_sorted_as(&w, &[o, p]));
     leave_last(&rt, &mut w, o);
-    assert!(rt; w.alive(p));
+    assert!(rt; w.alive(p) && is_sorted_as(&w, &[p]));
     w.drop_outcome(p);
+    assert!(rt; is_sorted_as(&w, &[]));
     assert!(rt; !w.alive(p) && w.count_of(LAST) == 0);
     Ok(())
+}
+
+/// Whether these outcomes are alive, in this order of their slots.
+fn is_sorted_as(w: &Work, outcomes: &[OutcomeId]) -> bool {
+    let slots = w.sorted();
+    slots.len() == outcomes.len() && slots.iter().zip(outcomes).all(|(slot, o)| slot.outcome == *o)
+}
+
+#[test]
+fn slots_rise_after_each_edit(rt: HostRuntime) -> Result<(), Fail> {
+    let alloc = rt.alloc();
+    let mut w = two_atoms(alloc)?;
+    w.room(1, 4)?;
+    let node = w.add_node(Node::Base(OutcomeId(0)));
+    let nothing = w.add_outcome(LAST, Targets::none(alloc, 1), node, AtomSet::none());
+    let again = w.add_outcome(FIRST, all_to(alloc, FIRST), node, AtomSet::none());
+    let ahead = w.add_outcome(FIRST, all_to(alloc, LAST), node, AtomSet::none());
+    let back = w.add_outcome(FIRST, all_to(alloc, FIRST), node, AtomSet::none());
+    assert!(rt; is_sorted_as(&w, &[again, back, ahead, nothing]));
+    w.set_outcome(again, all_to(alloc, LAST), node, AtomSet::none());
+    assert!(rt; is_sorted_as(&w, &[back, again, ahead, nothing]));
+    w.drop_outcome(again);
+    assert!(rt; is_sorted_as(&w, &[back, ahead, nothing]));
+    w.drop_atom(FIRST);
+    assert!(rt; is_sorted_as(&w, &[nothing]));
+    Ok(())
+}
+
+/// The targets of one agent that is sent to the atom.
+fn all_to(alloc: Global, n: AtomId) -> Targets {
+    let mut targets = Targets::none(alloc, 1);
+    targets.set(AgentId(0), n);
+    targets
 }
 
 fn leave_last(rt: &impl Abort, w: &mut Work, o: OutcomeId) {

@@ -42,17 +42,18 @@ fn build(alloc: Global, d: &Diagram) -> Result<Work, Memory>
     ensures fresh { IfOk result (λ w. w.plain ≡ fresh_work d.now) }
     ensures limits { IsWithinLimits d.now }
 {
-    let outcomes = outcomes_of(alloc, d)?;
+    let agents = d.agents();
+    let alive = outcomes_of(alloc, d)?;
     Ok(Work {
-        agents: d.agents(),
+        agents,
         left: AtomSet::below(d.atoms()),
         parties: parties_of_atoms(alloc, d)?,
         first: d.first(),
         last: d.last(),
         nodes: base_nodes(alloc, d.outcomes())?,
         numbers: d.outcomes(),
-        slots: slots_of(alloc, outcomes.as_slice())?,
-        outcomes,
+        slots: slots_of(alloc, alive.as_slice())?,
+        outcomes: alive,
         names: final_names(alloc, d)?,
         bases: parties_of_outcomes(alloc, d)?,
     })

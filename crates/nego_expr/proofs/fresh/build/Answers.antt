@@ -1,5 +1,9 @@
-use Rattle.std.proofs.Common.{sym}
+use Rattle.std.proofs.Common.{◌≡◌, List, map, sym, subst}
+use Rattle.nego_expr.specs.declared.outcome.Outcome.{Outcome}
 use Rattle.nego_expr.specs.declared.work.Work.TheInside.{Inside}
+use Rattle.nego_expr.specs.Fresh.{fresh_work}
+use Rattle.nego_expr.specs.Sorted.{AreSlotsOf}
+use Rattle.nego_expr.specs.WorkView.{plain_outcome, plain_work}
 use Rattle.nego_expr.proofs.FreshBuilt.{IsBuilt, built_work, built_usable}
 use Rattle.nego_expr.proofs.fresh.build.Goals as goal
 use Rattle.nego_expr.proofs.fresh.build.Goals.{In_ok-parties_of_outcomes}
@@ -7,14 +11,15 @@ use Rattle.nego_expr.proofs.fresh.build.Goals.{In_ok-parties_of_outcomes}
 -- the fields
 fields : In_ok-parties_of_outcomes → Inside
 fields c = record {
-  agents = c.agents.result;
+  agents = c.agents-agents.result;
   left = c.below.result;
   parties = c.in_ok-parties_of_atoms.field-0;
   first = c.first.result;
   last = c.last.result;
   nodes = c.in_ok-base_nodes.field-0;
   numbers = c.outcomes-2.result;
-  outcomes = c.in_ok-outcomes_of.field-0;
+  outcomes = c.in_ok-alive.alive;
+  slots = c.in_ok-slots_of.field-0;
   names = c.in_ok-final_names.field-0;
   bases = c.in_ok-parties_of_outcomes.field-0;
 }
@@ -23,7 +28,7 @@ fields c = record {
 built : (c : In_ok-parties_of_outcomes) → IsBuilt c.args.d.now (fields c)
 unfolding fields
 built c = record {
-  agents = c.agents.ensures.value;
+  agents = c.agents-agents.ensures.value;
   left = rw (sym c.atoms.ensures.value) c.below.ensures.value;
   parties = c.in_ok-parties_of_atoms.ensures;
   first = c.first.ensures.value;
@@ -31,15 +36,20 @@ built c = record {
   nodes = rw (sym c.outcomes.ensures.value) c.in_ok-base_nodes.ensures.nodes;
   room = c.in_ok-base_nodes.ensures.room;
   numbers = c.outcomes-2.ensures.value;
-  outcomes = c.in_ok-outcomes_of.ensures;
+  outcomes = c.in_ok-alive.ensures;
+  slots = subst (λ (xs : List Outcome). AreSlotsOf (map plain_outcome xs) c.in_ok-slots_of.field-0.items) c.as_slice.ensures c.in_ok-slots_of.ensures;
   names = c.in_ok-final_names.ensures;
   bases = c.in_ok-parties_of_outcomes.ensures;
 }
 
 pub invariant_of-result : goal.invariant_of-result
+invariant_of-result c = c.alive.invariant
+
+pub invariant_of-result-2 : goal.invariant_of-result-2
 unfolding fields
-invariant_of-result c = built_usable c.args.d.now (fields c) (built c) c.agents.ensures.limits
+invariant_of-result-2 c = rw c.alive.view_is (built_usable c.args.d.now (fields c) (built c) c.agents-agents.ensures.limits)
 
 pub returns-clause-fresh : goal.returns-clause-fresh
 unfolding fields
-returns-clause-fresh c = built_work c.args.d.now (fields c) (built c)
+returns-clause-fresh c =
+    subst (λ outcomes. plain_work (record (fields c) { outcomes = outcomes }) ≡ fresh_work c.args.d.now) (sym c.alive.view_is) (built_work c.args.d.now (fields c) (built c))
