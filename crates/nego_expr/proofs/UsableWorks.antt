@@ -10,8 +10,11 @@ use Rattle.nego_base.specs.Members.{is_in, without_member, RisesFrom, IsRising}
 use Rattle.nego_base.proofs.Members.{is_in_none, is_in-cases, rises-append}
 use Rattle.nego_expr.specs.Work.{WorkOutcome, parties_among}
 use Rattle.nego_expr.specs.Edits.{with_outcome, nodes_then, with_nodes_at}
-use Rattle.nego_expr.specs.Room.{RoomyWork}
-use Rattle.nego_expr.specs.WorkView.{atom_among, roomy_work, AreAlive}
+use Rattle.nego_expr.specs.Room.{RoomyNodes, RoomyWork}
+use Rattle.nego_expr.specs.Sorted.{PlainSlot, AreSlotsOf}
+use Rattle.nego_expr.specs.WorkView.{atom_among, plain_outcome, roomy_work, AreAlive, IsUsable}
+use Rattle.nego_base.specs.Room.{WithRoom}
+use Rattle.nego_expr.specs.declared.outcome.Outcome.{Outcome}
 use Rattle.nego_expr.specs.declared.work.Work.TheInside.{Inside}
 use Rattle.nego_expr.proofs.WorkEdits.{numbers_of, with_node, All-at_place, rises-passing, numbers-with_outcome, All-with_outcome}
 use Rattle.nego_expr.proofs.AddedNodes.{length-nodes_then}
@@ -122,3 +125,15 @@ alive-then_each agents numbers x n nodes outcomes ok = record {
     each : (P : WorkOutcome → Type 0) → ((i : ℕ) (y : WorkOutcome) → P y → P (with_node i y)) → All P outcomes → All P (with_nodes_at n (length nodes) outcomes)
     each P r h = All-with_nodes_at P n (length nodes) outcomes (All-weaker P (λ y. y.atom ≢ n → P y) (λ y p other. p) outcomes h)
         (λ k y e. r (length nodes + k) y (All-at_place P (of_atom n outcomes) k y (All-filter (λ z. z.atom == n) P outcomes h) e))
+
+-- with more room they may be used too
+pub roomier : (w : Inside) (nodes : RoomyNodes) (outcomes : WithRoom Outcome) (slots : WithRoom PlainSlot) → nodes.nodes ≡ w.nodes.nodes → outcomes.items ≡ w.outcomes.items → slots.items ≡ w.slots.items → IsUsable w →
+    IsUsable (record w { nodes = nodes; outcomes = outcomes; slots = slots })
+roomier w nodes outcomes slots n o s ok = record {
+  few_agents = ok.few_agents;
+  few_atoms = ok.few_atoms;
+  left_below = ok.left_below;
+  alive = rw (n, o) ok.alive;
+  few_numbers = ok.few_numbers;
+  sorted = subst (AreSlotsOf (map plain_outcome outcomes.items)) (sym s) (subst (λ (xs : List Outcome). AreSlotsOf (map plain_outcome xs) w.slots.items) (sym o) ok.sorted);
+}
