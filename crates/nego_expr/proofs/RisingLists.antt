@@ -1,6 +1,6 @@
 -- Lists that rise by a total order: where an item stands or is to stand, what is in them after an edit, and that they are
 -- known by what is in them.
-use Rattle.std.proofs.Common.{◌≡◌, ◌≢◌, ◌↔◌, ◌⊎◌, inl, inr, ⊎_elim, ℕ, zero, suc, ◌+◌, ◌<◌, ◌≤◌, List, [], ◌∷◌, ◌++◌, Bool, true, false, cond, IsTrue, length, take, drop, map, option_map, slice_get, get_or, Some, Result, Ok, Err, IfOk, IfErr, refl, sym, subst, ap, ap₂, ◌∙◌, arith}
+use Rattle.std.proofs.Common.{◌≡◌, ◌≢◌, ◌↔◌, ◌⊎◌, inl, inr, ⊎_elim, ℕ, zero, suc, ◌<◌, ◌≤◌, List, [], ◌∷◌, ◌++◌, Bool, true, false, cond, IsTrue, length, take, drop, map, option_map, slice_get, get_or, Some, Result, Ok, Err, IfOk, IfErr, refl, sym, subst, ap, ap₂, ◌∙◌, arith}
 use Rattle.std.specs.List.{All, AllPairs, Contains, filter, insert, remove}
 use Rattle.std.specs.List.Sorted.{IsNonDecreasingBy, IsPartitionPoint, IsSearchInRange, IsBinarySearchResult}
 use Rattle.std.specs.Result.{IsOk}
@@ -11,7 +11,7 @@ use Rattle.std.specs.declared.cmp.Ordering.TheVariants.{Less, Equal, Greater}
 use Rattle.std.proofs.lemmas.Bool.{true≢false, cond-true, cases_lt}
 use Rattle.std.proofs.lemmas.Cmp.{tied_itself}
 use Rattle.std.proofs.lemmas.List.{take-append-drop, length-map, get_or-map}
-use Rattle.std.proofs.lemmas.List.Elements.{All-nil, All-cons, All-append, All-contains, filter_passes, Contains-get_or, Contains-append_left, Contains-append_right, Contains-append_cases}
+use Rattle.std.proofs.lemmas.List.Elements.{All-cons, All-append, All-contains, filter_passes, Contains-get_or, Contains-append_left, Contains-append_right, Contains-append_cases}
 use Rattle.std.proofs.lemmas.List.Kept.{AllPairs-cons}
 use Rattle.std.proofs.lemmas.Map.Lookups.{CmpEqualImpliesEq}
 use Rattle.std.proofs.lemmas.Option.{none-some, same_Some, slice_get-map, slice_get_cases}
@@ -189,9 +189,16 @@ module _ {X : Type 0} (R : X → X → Ordering) (o : IsTotalOrder R) where
     where
       at : (y : Y) × (i < length ys) × (slice_get ys i ≡ Some y) × (get_or ys i y ≡ y) → slice_get (map see ys) i ≡ Some k
       at q = slice_get-map see ys i ∙ (ap (option_map see) q.2 ∙ ap Some (exact (see q.0) k (subst (λ y. R (see y) k ≡ Equal) q.3 (equal q.0))))
-  searched {Y} see exact ys k (Err i) rise within parts = (tt, (within, (
-    λ j d low lt. seen (λ x. R x k ≡ Less) j d (omega (arith, lt, within)) (λ e. (parts rising).0 j e low lt),
-    λ j d low lt. let l : j < length ys = omega (arith, lt, length-map ys see) in seen (λ x. R x k ≡ Greater) j d l (λ e. (parts rising).1 j e low l))))
+  searched {Y} see exact ys k (Err i) rise within parts = (
+    tt,
+    (
+      within,
+      (
+        λ j d low lt. seen (λ x. R x k ≡ Less) j d (omega (arith, lt, within)) (λ e. (parts rising).0 j e low lt),
+        λ j d low lt. let l : j < length ys = omega (arith, lt, length-map ys see) in seen (λ x. R x k ≡ Greater) j d l (λ e. (parts rising).1 j e low l),
+      ),
+    ),
+  )
     where
       rising : IsNonDecreasingBy (λ y. ordering_index (R (see y) k)) ys
       rising a b d le lt =

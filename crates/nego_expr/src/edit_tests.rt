@@ -54,7 +54,11 @@ fn edits_follow_one_another(rt: HostRuntime) -> Result<(), Fail> {
 /// Whether these outcomes are alive, in this order of their slots.
 fn is_sorted_as(w: &Work, outcomes: &[OutcomeId]) -> bool {
     let slots = w.sorted();
-    slots.len() == outcomes.len() && slots.iter().zip(outcomes).all(|(slot, o)| slot.outcome == *o)
+    slots.len() == outcomes.len()
+        && slots
+            .iter()
+            .zip(outcomes)
+            .all(|(slot, o)| slot.outcome == *o)
 }
 
 #[test]

@@ -4,7 +4,7 @@ use Rattle.std.specs.List.Sorted.{IsPartitionPoint}
 use Rattle.std.specs.declared.cmp.Ordering.TheVariants.{Less, Greater}
 use Rattle.std.proofs.lemmas.List.{length-map}
 use Rattle.nego_expr.specs.declared.slots.Slot.{Slot}
-use Rattle.nego_expr.specs.Sorted.{PlainSlot, plain_slot, slot_of, slot_cmp, IsBelow}
+use Rattle.nego_expr.specs.Sorted.{plain_slot, slot_of, slot_cmp, IsBelow}
 use Rattle.nego_expr.specs.WorkView.{plain_outcome}
 use Rattle.nego_expr.proofs.Places.{insert-seen}
 use Rattle.nego_expr.proofs.RisingLists.{Contains-insert, Contains-place, rises-insert}

@@ -5,7 +5,7 @@ use Rattle.std.proofs.lemmas.Fn.{filter_same}
 use Rattle.std.proofs.lemmas.List.Filters.{length-filter_both}
 use Rattle.std.proofs.lemmas.List.Kept.{AllPairs-filter}
 use Rattle.nego_expr.specs.declared.slots.Slot.{Slot}
-use Rattle.nego_expr.specs.Sorted.{PlainSlot, plain_slot, IsBelow}
+use Rattle.nego_expr.specs.Sorted.{plain_slot, IsBelow}
 use Rattle.nego_expr.proofs.Places.{filter-seen}
 use Rattle.nego_expr.proofs.RisingLists.{Contains-filter}
 use Rattle.nego_expr.proofs.slots.Slots.remove_atom.Goals as goal
