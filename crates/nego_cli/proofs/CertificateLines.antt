@@ -1,5 +1,8 @@
 -- The lines of uses and of atoms that are left, appended to a text one by one.
-use Rattle.std.proofs.Common.{◌≡◌, ◌∙◌, ℕ, Bool, true, false, if◌then◌else◌, List, [], ◌∷◌, ◌++◌, ap, refl, sym}
+use Rattle.std.proofs.Common.{◌≡◌, ◌∙◌, ℕ, ◌+◌, Bool, true, false, if◌then◌else◌, List, [], ◌∷◌, ◌++◌, ap, refl, sym, add-one, zero-add}
+use Rattle.std.specs.List.{range_with_len}
+use Rattle.nego_base.specs.Appending.{Appends}
+use Rattle.nego_base.specs.Bits.{range-suc}
 use Rattle.nego_base.specs.Members.{is_in}
 use Rattle.nego_model.specs.Diagram.{PlainDiagram}
 use Rattle.nego_expr.specs.Use.{PlainUse}
@@ -15,7 +18,7 @@ either true x y x' y' e f = e
 either false x y x' y' e f = f
 
 -- the lines of the atoms among some and one more
-pub left_among-more : (d : PlainDiagram) (left ns : List ℕ) (n : ℕ) (rest : List ℕ) → left_among d left (ns ++ n ∷ []) rest ≡ left_among d left ns (left_among d left (n ∷ []) rest)
+left_among-more : (d : PlainDiagram) (left ns : List ℕ) (n : ℕ) (rest : List ℕ) → left_among d left (ns ++ n ∷ []) rest ≡ left_among d left ns (left_among d left (n ∷ []) rest)
 left_among-more d left [] n rest = refl
 left_among-more d left (m ∷ ns) n rest =
     let behind = left_among-more d left ns n rest in
@@ -23,8 +26,22 @@ left_among-more d left (m ∷ ns) n rest =
     (left_line d m (left_among d left ns (left_among d left (n ∷ []) rest))) (left_among d left ns (left_among d left (n ∷ []) rest)) (ap (left_line d m) behind) behind
 
 -- the line of one atom
-pub left_here : (d : PlainDiagram) (left : List ℕ) (n : ℕ) (rest : List ℕ) → is_in n left ≡ true → left_among d left (n ∷ []) rest ≡ left_line d n rest
+left_here : (d : PlainDiagram) (left : List ℕ) (n : ℕ) (rest : List ℕ) → is_in n left ≡ true → left_among d left (n ∷ []) rest ≡ left_line d n rest
 left_here d left n rest is = ap (λ b. if b then left_line d n rest else rest) is
 
-pub left_away : (d : PlainDiagram) (left : List ℕ) (n : ℕ) (rest : List ℕ) → is_in n left ≡ false → left_among d left (n ∷ []) rest ≡ rest
+left_away : (d : PlainDiagram) (left : List ℕ) (n : ℕ) (rest : List ℕ) → is_in n left ≡ false → left_among d left (n ∷ []) rest ≡ rest
 left_away d left n rest is = ap (λ b. if b then left_line d n rest else rest) is
+
+-- the lines of the atoms below n + 1
+below_more : (d : PlainDiagram) (left : List ℕ) (n : ℕ) (rest : List ℕ) → left_among d left (range_with_len 0 (n + 1)) rest ≡ left_among d left (range_with_len 0 n) (left_among d left (n ∷ []) rest)
+below_more d left n rest = ap (λ ns. left_among d left ns rest) (ap (λ k. range_with_len 0 k) (add-one n) ∙ (range-suc 0 n ∙ ap (λ k. range_with_len 0 n ++ k ∷ []) (zero-add n))) ∙ left_among-more d left (range_with_len 0 n) n rest
+
+-- the line of an atom that is left is appended
+pub left_added : (d : PlainDiagram) (left old mid new : List ℕ) (n : ℕ) → Appends old mid (left_among d left (range_with_len 0 n)) → is_in n left ≡ true → Appends mid new (left_line d n) → Appends old new (left_among d left (range_with_len 0 (n + 1)))
+left_added d left old mid new n before is adds rest =
+    adds rest ∙ (before (left_line d n rest) ∙ ap (λ t. old ++ t) (ap (left_among d left (range_with_len 0 n)) (sym (left_here d left n rest is)) ∙ sym (below_more d left n rest)))
+
+-- and none where the atom isn't left
+pub left_skipped : (d : PlainDiagram) (left old mid : List ℕ) (n : ℕ) → Appends old mid (left_among d left (range_with_len 0 n)) → is_in n left ≡ false → Appends old mid (left_among d left (range_with_len 0 (n + 1)))
+left_skipped d left old mid n before is rest =
+    before rest ∙ ap (λ t. old ++ t) (ap (left_among d left (range_with_len 0 n)) (sym (left_away d left n rest is)) ∙ sym (below_more d left n rest))

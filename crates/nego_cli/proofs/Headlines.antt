@@ -57,7 +57,7 @@ says_sound source out err [] text read turn told put nothing = absurd turn
 says_sound source out err (ReadTooLong ∷ reads) text read turn told put nothing = absurd told
 says_sound source out err (ReadNoEnd line ∷ reads) text read turn told put nothing = absurd told
 says_sound source out err (ReadPart part ∷ reads) text read (inl (why, is, none, bad)) told put nothing = absurd (let never : TellsText ≡ Refuses why = is in cc)
-says_sound source out err (ReadPart part ∷ reads) text read (inr (other, e, at, spells, determined, none)) (d, spelled, reduction) put nothing =
+says_sound source out err (ReadPart part ∷ reads) text read (inr (other, e, at, spells, (determined, none))) (d, spelled, reduction) put nothing =
     sound_so source out err part text d reduction.uses reduction.left reduction.verdict reduction.status_is (subst (λ rest. HasRead (ReadPart part ∷ rest) source) none read) spelled.0
     reduction.reduced reduction.printed put nothing
 
@@ -101,5 +101,5 @@ headline words source out err status says text asks = record {
       IsHindered source out err status ⊎ (((status ≡ statuses.Done) × IsSound (negotiation_of d)) ⊎ ((status ≡ statuses.No) × ¬ IsSound (negotiation_of d))))
       source.before source.after
       (λ input left shown part d is spelled determined acyclic. shown_decided source out err status (read_at input) part d is spelled acyclic
-      (shown commands.Reduce 1 asks (inr (part, d, is, spelled, determined, refl)))) text;
+      (shown commands.Reduce 1 asks (inr (part, d, is, spelled, (determined, refl))))) text;
 }

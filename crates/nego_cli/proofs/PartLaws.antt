@@ -1,5 +1,5 @@
 -- Parts that are read of an input, one behind the other.
-use Rattle.std.proofs.Common.{◌≡◌, ◌∙◌, inl, inr, ℕ, zero, suc, ◌+◌, ◌≤◌, List, [], ◌∷◌, ◌++◌, length, Option, Some, None, refl, sym, ap, subst, arith}
+use Rattle.std.proofs.Common.{◌≡◌, ◌∙◌, inl, inr, ℕ, zero, suc, ◌+◌, ◌≤◌, List, [], ◌∷◌, ◌++◌, length, Option, Some, None, refl, sym, ap, subst, arith, zero-add}
 use Rattle.std.proofs.lemmas.List.{length-append}
 use Rattle.nego_io.specs.Part.{behind}
 use Rattle.nego_io.specs.Outside.{WhereTold}
@@ -16,12 +16,16 @@ length_reads (suc n) input = ap suc (length_reads n (behind part_limit input))
 
 -- more parts are read behind the first
 pub reads_more : (n k : ℕ) (input : List ℕ) → reads_at (n + k) input ≡ reads_at n input ++ reads_at k (behind_parts n input)
-reads_more zero k input = refl
-reads_more (suc n) k input = ap (λ reads. read_at input ∷ reads) (reads_more n k (behind part_limit input))
+reads_more zero k input = ap (λ i. reads_at i input) (zero-add k)
+reads_more (suc n) k input =
+    let count : suc n + k ≡ suc (n + k) = omega arith in
+    ap (λ i. reads_at i input) count ∙ ap (λ reads. read_at input ∷ reads) (reads_more n k (behind part_limit input))
 
 behind_more : (n k : ℕ) (input : List ℕ) → behind_parts (n + k) input ≡ behind_parts k (behind_parts n input)
-behind_more zero k input = refl
-behind_more (suc n) k input = behind_more n k (behind part_limit input)
+behind_more zero k input = ap (λ i. behind_parts i input) (zero-add k)
+behind_more (suc n) k input =
+    let count : suc n + k ≡ suc (n + k) = omega arith in
+    ap (λ i. behind_parts i input) count ∙ behind_more n k (behind part_limit input)
 
 -- ---- what is taken
 
@@ -64,8 +68,10 @@ read_then bytes faults old mid new first second h k =
     (k.0 ∙ h.0, told_then (Reads first) (Reads second) (Reads (first ++ second)) (bytes old) (bytes mid) (bytes new) (read_behind first second) h.1 k.1)
 
 take_behind : (n k : ℕ) (input now : List ℕ) → TakesParts n (behind_parts k input) now → TakesParts (k + n) input now
-take_behind n zero input now h = h
-take_behind n (suc k) input now h = inr (take_behind n k (behind part_limit input) now h)
+take_behind n zero input now h = subst (λ i. TakesParts i input now) (sym (zero-add n)) h
+take_behind n (suc k) input now h =
+    let count : suc (k + n) ≡ suc k + n = omega arith in
+    subst (λ i. TakesParts i input now) count (inr (take_behind n k (behind part_limit input) now h))
 
 -- Some parts were read, and then no more than some were taken.
 pub took_then : {X : Type 0} (bytes : X → Option (List ℕ)) (faults : X → ℕ) (old mid new : X) (reads : List Read) (n : ℕ) → HasRead reads (effect bytes faults old mid) → TookParts n (effect bytes faults mid new) →
