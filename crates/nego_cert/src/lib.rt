@@ -1,0 +1,16 @@
+//! Certificates: their text, read and printed, and their replay, which checks a certificate use by use.
+#![tactic(auto)]
+
+mod cert;
+pub mod laws;
+mod printing;
+mod reading;
+mod replaying;
+mod row;
+mod verdict;
+
+pub use cert::{Cert, CertLine};
+pub use printing::print_cert;
+pub use reading::read_cert;
+pub use replaying::replay;
+pub use verdict::{RuleWhy, Verdict};
