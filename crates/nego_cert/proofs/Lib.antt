@@ -1,0 +1,6 @@
+pub mod CertificateRows
+pub mod CertificateTexts
+pub mod CertificateWalk
+pub mod LineTexts
+pub mod MadeLines
+pub mod Verdicts

@@ -1,5 +1,6 @@
 pub mod CertificateText
 pub mod Laws
 pub mod Lines
+pub mod Reading
 pub mod Replay
 pub mod Table

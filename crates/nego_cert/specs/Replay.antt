@@ -66,6 +66,12 @@ IsVerdict diagram lines (Accepted summary) = LeadToSummary (fresh_work diagram) 
 IsVerdict diagram lines (Rejected number why) = IsFirstFailing (fresh_work diagram) lines number why
 IsVerdict diagram lines (NotOne count) = LeavesMore (fresh_work diagram) (uses_on lines) count
 
+-- what a work comes to that all uses of a certificate lead to
+abbrev pub IsFinished : PlainWork → PlainVerdict → Type 0
+IsFinished work (Accepted summary) = (length work.atoms ≡ 1) × (summary ≡ summary_of_work work)
+IsFinished work (Rejected number why) = ⊥
+IsFinished work (NotOne count) = (count ≡ length work.atoms) × (1 < count)
+
 -- where a certificate is accepted, the summary tells the diagram
 abbrev pub TellsIfAccepted : PlainDiagram → PlainVerdict → Type 0
 TellsIfAccepted diagram (Accepted summary) = Tells summary diagram

@@ -3,6 +3,7 @@
 
 mod cert;
 pub mod laws;
+mod lines;
 mod printing;
 mod reading;
 mod replaying;
