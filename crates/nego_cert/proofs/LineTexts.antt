@@ -63,8 +63,8 @@ module _ (line : Line) where
       by_words [] e = absurd cc
       by_words (w ∷ ws) e = (w, refl, heads w.text text (map (λ (w : Word). w.text) ws) rest e)
         where
-          heads : (a b : List ℕ) (as bs : List (List ℕ)) → a ∷ as ≡ b ∷ bs → a ≡ b
-          heads a b as bs h = cc
+          heads : (a b : List ℕ) (xs ys : List (List ℕ)) → a ∷ xs ≡ b ∷ ys → a ≡ b
+          heads a b xs ys h = cc
 
   -- ---- how many words
 
