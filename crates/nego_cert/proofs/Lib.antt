@@ -4,5 +4,9 @@ pub mod CertificateWalk
 pub mod LineTexts
 pub mod MadeLines
 pub mod PrintedCertificates
+pub mod SummaryRows
+pub mod SummarySpelling
+pub mod SummaryTexts
+pub mod SummaryWalk
 pub mod UseLines
 pub mod Verdicts

@@ -183,9 +183,10 @@ uses_say : (n : ℕ) (uses : List PlainUse) → All HasShortNumbers uses →
 uses_say n [] h = (((named_is keyword (keyword kinds.End) behind_header kinds.End refl).0, words_are n end_words end_printable, tt), refl)
 uses_say n (first ∷ uses) h =
     let later = uses_say (n + 1) uses (All-tail HasShortNumbers first uses h) in
-    let same = sym (behind_use first) in
-    ((use_may_stand first, use_says n first (All-head HasShortNumbers first uses h), subst (λ (ks : List Kind). Say certificate_lines ks (numbered (n + 1) (words_behind uses)) (rows_behind (n + 1) uses)) same later.0),
-    subst (λ (ks : List Kind). behind_rows certificate_lines ks (rows_behind (n + 1) uses) ≡ []) same later.1)
+    let same = sym (behind_use first) in (
+      (use_may_stand first, use_says n first (All-head HasShortNumbers first uses h), subst (λ (ks : List Kind). Say certificate_lines ks (numbered (n + 1) (words_behind uses)) (rows_behind (n + 1) uses)) same later.0),
+      subst (λ (ks : List Kind). behind_rows certificate_lines ks (rows_behind (n + 1) uses) ≡ []) same later.1,
+    )
 
 pub printed_spelled : PrintedAreSpelled
 printed_spelled uses h =

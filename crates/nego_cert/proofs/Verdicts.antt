@@ -70,9 +70,11 @@ made_or_fails work end reached (line ∷ lines) (b ∷ before) behind bad why le
 pub first_failing_once : (work reached reached' : PlainWork) (before before' behind behind' : List CertLine) (bad bad' : CertLine) (why why' : RuleWhy) → before ++ bad ∷ behind ≡ before' ++ bad' ∷ behind' →
     Lead Allowed work (uses_on before) reached → Lead Allowed work (uses_on before') reached' → Fails reached (plain_use bad.what) why → Fails reached' (plain_use bad'.what) why' → (bad ≡ bad') × (why ≡ why')
 first_failing_once work reached reached' [] [] behind behind' bad bad' why why' same h k f g =
-    let one = heads bad bad' behind behind' same in
-    (one, fails_once work (plain_use bad.what) why why' (subst (λ w. Fails w (plain_use bad.what) why) (sym h) f)
-    (subst (λ l. Fails work (plain_use l.what) why') (sym one) (subst (λ w. Fails w (plain_use bad'.what) why') (sym k) g)))
+    let one = heads bad bad' behind behind' same in (
+      one,
+      fails_once work (plain_use bad.what) why why' (subst (λ w. Fails w (plain_use bad.what) why) (sym h) f)
+          (subst (λ l. Fails work (plain_use l.what) why') (sym one) (subst (λ w. Fails w (plain_use bad'.what) why') (sym k) g)),
+    )
 first_failing_once work reached reached' [] (b ∷ before') behind behind' bad bad' why why' same h k f g =
     let one = heads bad b behind (before' ++ bad' ∷ behind') same in
     absurd (fails_or_made work (plain_use b.what) why (subst (λ l. Fails work (plain_use l.what) why) one (subst (λ w. Fails w (plain_use bad.what) why) (sym h) f)) k.0 k.1)

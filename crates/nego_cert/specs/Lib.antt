@@ -4,5 +4,6 @@ pub mod Lines
 pub mod Reading
 pub mod Replay
 pub mod SummaryLines
+pub mod SummaryReading
 pub mod SummaryTable
 pub mod Table

@@ -16,6 +16,14 @@ keyword kinds.Node = codes "node"
 keyword kinds.Final = codes "final"
 keyword kinds.End = codes "end"
 
+-- the kinds of lines that may follow: behind the header and nodes, nodes and final outcomes; behind a final outcome, another
+-- one or the end
+abbrev pub followers : SummaryKind → List SummaryKind
+followers kinds.Header = kinds.Node ∷ kinds.Final ∷ []
+followers kinds.Node = kinds.Node ∷ kinds.Final ∷ []
+followers kinds.Final = kinds.Final ∷ kinds.End ∷ []
+followers kinds.End = []
+
 -- what is said of a node, and how many words its line has
 abbrev pub form_word : Form → List ℕ
 form_word forms.Base = codes "base"

@@ -19,7 +19,7 @@ use Rattle.nego_cert.specs.declared.summary_row.Form.TheVariants as forms
 use Rattle.nego_cert.specs.declared.summary_row.SummaryKind.{SummaryKind}
 use Rattle.nego_cert.specs.declared.summary_row.SummaryKind.TheVariants as kinds
 use Rattle.nego_cert.specs.Table.{word_texts}
-use Rattle.nego_cert.specs.SummaryLines.{keyword, form_word, node_line_words, final_line_words}
+use Rattle.nego_cert.specs.SummaryLines.{keyword, followers, form_word, node_line_words, final_line_words}
 
 -- what a line says
 pub data SummaryLine : Type 0 where
@@ -96,16 +96,25 @@ abbrev pub SpellsSummaryLine : Known → Line → SummaryLine → Type 0
 SpellsSummaryLine known line HeaderLine = word_texts line ≡ codes "summary" ∷ codes "1" ∷ []
 SpellsSummaryLine known line (NodeLine node) = (word_texts line ≡ node_line_words known.nodes node) × IsNodeAt known.nodes node
 SpellsSummaryLine known line (FinalLine outcome) =
-    (word_texts line ≡ final_line_words outcome.name outcome.node) × (is_name outcome.name ≡ true) × All (λ name. name ≢ outcome.name) known.names × (outcome.node < known.nodes)
+    (word_texts line ≡ final_line_words outcome.name outcome.node) × (is_name outcome.name ≡ true) × All (λ name. name ≢ outcome.name) known.names × (outcome.node < known.nodes) × (outcome.node ≤ 999999)
 SpellsSummaryLine known line EndLine = word_texts line ≡ codes "end" ∷ []
 
--- what is known behind a line: nodes and final outcomes may stand behind the header and nodes, final outcomes and the end
--- behind a final outcome
+-- the nodes and the final outcomes that lines say
+abbrev pub node_of : SummaryLine → List PlainNode
+node_of (NodeLine node) = node ∷ []
+node_of _ = []
+
+abbrev pub final_of : SummaryLine → List PlainFinal
+final_of (FinalLine outcome) = outcome ∷ []
+final_of _ = []
+
+-- what is known behind a line: how many nodes there are, and the names so far
 abbrev pub behind : Known → SummaryLine → Known
-behind known HeaderLine = record known { may = kinds.Node ∷ kinds.Final ∷ [] }
-behind known (NodeLine node) = record known { may = kinds.Node ∷ kinds.Final ∷ []; nodes = known.nodes + 1 }
-behind known (FinalLine outcome) = record known { may = kinds.Final ∷ kinds.End ∷ []; names = known.names ++ outcome.name ∷ [] }
-behind known EndLine = record known { may = [] }
+behind known said = record {
+  may = followers (kind_of said);
+  nodes = known.nodes + length (node_of said);
+  names = known.names ++ map (λ outcome. outcome.name) (final_of said);
+}
 
 -- The grammar of a summary.
 abbrev pub summary_lines : LineGrammar Known SummaryKind SummaryLine SummaryDemand

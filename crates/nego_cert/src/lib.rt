@@ -8,6 +8,7 @@ mod printing;
 mod reading;
 mod replaying;
 mod row;
+mod summary_lines;
 mod summary_reading;
 mod summary_row;
 mod verdict;

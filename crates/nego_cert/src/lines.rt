@@ -29,7 +29,7 @@ fn kind_named(may: &[Kind], first: &Word) -> Option<Kind>
 
 /// The number at a place of the line.
 #[tactic(auto, unfolding(crate::specs::Reading::number_in))]
-fn number_in(line: &Line, i: usize) -> Result<u32, Fault>
+pub(crate) fn number_in(line: &Line, i: usize) -> Result<u32, Fault>
     requires { FitsLine line.now }
     ensures { Tells (λ n. n) result (number_in line.now i) }
 {
@@ -38,7 +38,7 @@ fn number_in(line: &Line, i: usize) -> Result<u32, Fault>
 
 /// That the line is of version 1.
 #[tactic(auto, unfolding(crate::specs::Reading::header_in))]
-fn header_in(line: &Line) -> Result<(), Fault>
+pub(crate) fn header_in(line: &Line) -> Result<(), Fault>
     requires { FitsLine line.now }
     ensures { Tells (λ _. tt) result (header_in line.now) }
 {

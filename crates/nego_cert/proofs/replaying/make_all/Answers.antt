@@ -26,8 +26,10 @@ pub loop-line-preserved : goal.loop-line-preserved
 loop-line-preserved c =
     let work = c.loop-line.work.plain in
     let new = c.make.new.work.plain in
-    let next = plain_use (slice_index_or c.args.lines.now c.loop-line.line-index nothing).what in
-    (made_more c.args.work.now.plain work c.args.lines.now c.loop-line.line-index nothing c.loop-line-test.true c.loop-line.invariant.0 new
-    (is_allowed next work new c.make.result c.make.ensures c.in-Ok.field-0 c.in-Ok.is)
-    (has_room next work new c.make.result c.make.ensures c.in-Ok.field-0 c.in-Ok.is)
-    (is_after next work new c.make.result c.make.ensures c.in-Ok.field-0 c.in-Ok.is), c.make.ensures.work)
+    let next = plain_use (slice_index_or c.args.lines.now c.loop-line.line-index nothing).what in (
+      made_more c.args.work.now.plain work c.args.lines.now c.loop-line.line-index nothing c.loop-line-test.true c.loop-line.invariant.0 new
+          (is_allowed next work new c.make.result c.make.ensures c.in-Ok.field-0 c.in-Ok.is)
+          (has_room next work new c.make.result c.make.ensures c.in-Ok.field-0 c.in-Ok.is)
+          (is_after next work new c.make.result c.make.ensures c.in-Ok.field-0 c.in-Ok.is),
+      c.make.ensures.work,
+    )
