@@ -1,0 +1,4 @@
+pub mod ScheduleText
+pub mod ScheduleTable
+pub mod ScheduleReading
+pub mod ReportText

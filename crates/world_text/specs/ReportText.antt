@@ -1,0 +1,53 @@
+-- The report of a world. Every line ends with a newline; agents, atoms and outcomes stand with their names.
+use Rattle.std.specs.Prelude.{ℕ, List, ◌++◌, length, filter, Option, codes, decimal}
+use Rattle.std.specs.List.{flat_map, range_with_len}
+use Rattle.std.specs.Option.{is_none, option_map_or}
+use Rattle.nego_data.specs.Data.{split}
+use Rattle.nego_model.specs.Joining as model
+use Rattle.nego_model.specs.Diagram.{PlainDiagram, agent_name, atom_name, outcome_name}
+use Rattle.agent_msg.specs.Records.{Share, Entry, Moved, Decided}
+use Rattle.agent_core.specs.Agents.{PlainAgent}
+use Rattle.agent_core.specs.Worlds.{PlainWorld, agent_of}
+
+-- an atom and an outcome
+abbrev pub step_words : PlainDiagram → ℕ → ℕ → List ℕ
+step_words diagram n o = atom_name diagram n ++ (codes " " ++ outcome_name diagram o)
+
+-- numbers, each behind a blank
+abbrev pub number_words : List ℕ → List ℕ
+number_words numbers = flat_map (λ n. codes " " ++ decimal n) numbers
+
+-- an entry of the history: the atom that occurred, its outcome, and the value of each agent after it
+abbrev pub entry_line : PlainDiagram → model.Entry → List ℕ
+entry_line diagram entry = codes "did " ++ (step_words diagram entry.step.0 entry.step.1 ++ (number_words (split diagram.sizes entry.joint) ++ codes "\n"))
+
+-- a party of a decision, with its visit and its value after, behind a blank
+abbrev pub share_words : PlainDiagram → Share → List ℕ
+share_words diagram share = codes " " ++ (agent_name diagram share.agent ++ (codes ":" ++ (decimal share.visit ++ (codes ":" ++ decimal share.after))))
+
+-- a record of an agent
+abbrev pub record_line : PlainDiagram → Entry → List ℕ
+record_line diagram (Moved n o after) = codes "move " ++ (step_words diagram n o ++ (codes " " ++ (decimal after ++ codes "\n")))
+record_line diagram (Decided n o shares) = codes "decision " ++ (step_words diagram n o ++ (flat_map (share_words diagram) shares ++ codes "\n"))
+
+-- where an agent is: at an atom, or finished
+abbrev pub place_words : PlainDiagram → Option ℕ → List ℕ
+place_words diagram at = option_map_or (λ n. codes " at " ++ atom_name diagram n) at (codes " done")
+
+-- the agent of a number: where it is, its value, how many records it has, and its records
+abbrev pub agent_lines : PlainDiagram → ℕ → PlainAgent → List ℕ
+agent_lines diagram a agent =
+    codes "agent " ++ (agent_name diagram a ++ (place_words diagram agent.at ++ (codes " " ++ (decimal agent.value ++ (codes " records " ++
+    (decimal (length agent.records) ++ (codes "\n" ++ flat_map (record_line diagram) agent.records)))))))
+
+-- how many agents are finished
+abbrev pub finished_count : PlainWorld → ℕ
+finished_count world = length (filter (λ agent. is_none agent.at) world.agents)
+
+-- The report of a world after so many events: how many messages were sent, the history, the agents in their order, and how
+-- many of them are finished.
+unfoldable pub report_text : PlainDiagram → PlainWorld → ℕ → List ℕ
+report_text diagram world events =
+    codes "world 1\nevents " ++ (decimal events ++ (codes "\nsent " ++ (decimal (length world.sent) ++ (codes "\n" ++ (flat_map (entry_line diagram) world.history ++
+    (flat_map (λ a. agent_lines diagram a (agent_of diagram world a)) (range_with_len 0 (length diagram.agents)) ++
+    (codes "finished " ++ (decimal (finished_count world) ++ (codes " of " ++ (decimal (length diagram.agents) ++ codes "\n"))))))))))
