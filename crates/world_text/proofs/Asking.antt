@@ -4,6 +4,7 @@ use Rattle.std.specs.Prelude.{slice_get, codes}
 use Rattle.std.specs.Option.{option_map_or}
 use Rattle.std.specs.Str.{bytes_eq}
 use Rattle.std.proofs.lemmas.Bool.{false≢true, ltb-true, lt-ltb}
+use Rattle.std.proofs.lemmas.List.{get_or_default}
 use Rattle.std.proofs.lemmas.Option.{slice_get-get_or}
 use Rattle.nego_base.specs.declared.fault.FaultKind.TheVariants as fault_kinds
 use Rattle.nego_base.specs.declared.fault.Fault.{Fault}
@@ -31,10 +32,7 @@ word_there : (words : List Word) (i : ℕ) → i < length words → (word : Word
 word_there [] i within = absurd (omega arith)
 word_there (word ∷ words) i within =
     let at = get_or (word ∷ words) i word in
-    (at, slice_get-get_or (word ∷ words) i word within, ap (take 1) (cut_at (word ∷ words) i at within (sym (get_or_same i))))
-  where
-    get_or_same : (i : ℕ) → get_or (word ∷ words) i (get_or (word ∷ words) i word) ≡ get_or (word ∷ words) i word
-    get_or_same i = refl
+    (at, slice_get-get_or (word ∷ words) i word within, ap (take 1) (cut_at (word ∷ words) i at within (get_or_default (word ∷ words) i word at within)))
 
 module _ (diagram : PlainDiagram) (line : Line) where
   abbrev By : {Y : Type 0} → List (Demand Asked) → Result Y Fault → Type 0

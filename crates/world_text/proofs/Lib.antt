@@ -1,3 +1,5 @@
 pub mod Naming
 pub mod Asking
 pub mod Saying
+pub mod Walking
+pub mod Said

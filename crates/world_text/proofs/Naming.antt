@@ -1,11 +1,11 @@
 -- Agents by their names.
-use Rattle.std.proofs.Common.{◌≡◌, ℕ, ◌+◌, ◌<◌, ◌≤◌, true, false, List, length, get_or, Some, None, sym, ◌∙◌, arith}
+use Rattle.std.proofs.Common.{◌≡◌, ℕ, ◌+◌, ◌<◌, ◌≤◌, true, false, List, [], length, get_or, Some, None, refl, sym, ◌∙◌, arith}
 use Rattle.std.specs.List.{Contains}
 use Rattle.std.specs.Str.{bytes_eq}
 use Rattle.std.proofs.lemmas.Bool.{false≢true, false_from_ne_true}
 use Rattle.std.proofs.lemmas.List.{get_or_default}
 use Rattle.std.proofs.lemmas.Slice.Eq.{bytes_eq-Decides}
-use Rattle.nego_base.proofs.Firsts.{found_in_range, none_found, first_in_range}
+use Rattle.nego_base.proofs.Firsts.{found_in_range, none_found, first_in_range, none_in_range}
 use Rattle.nego_model.specs.Diagram.{PlainDiagram, agent_name}
 use Rattle.nego_model.specs.Limits.{HasNames}
 use Rattle.world_text.specs.ScheduleReading.{agent_named}
@@ -27,6 +27,17 @@ module _ (diagram : PlainDiagram) where
       let fails = none_found (λ e. bytes_eq (agent_name diagram e) name) 0 (length diagram.agents) h there.0 (omega arith) (omega (arith, there.1)) in
       let same : agent_name diagram there.0 ≡ name = get_or_default diagram.agents there.0 [] name there.1 ∙ there.2 in
       false≢true (sym fails ∙ (bytes_eq-Decides (agent_name diagram there.0) name).1 same)
+
+  -- the first agent of a name
+  pub named_first : (name : List ℕ) (a : ℕ) → a < length diagram.agents → ((e : ℕ) → e < a → bytes_eq (agent_name diagram e) name ≡ false) → bytes_eq (agent_name diagram a) name ≡ true → Some a ≡ agent_named diagram name
+  unfolding agent_named
+  named_first name a known before is =
+      sym (first_in_range (λ e. bytes_eq (agent_name diagram e) name) 0 (length diagram.agents) a (omega arith) (omega (arith, known)) (λ e low under. before e under) is)
+
+  -- no agent has the name
+  pub named_nowhere : (name : List ℕ) → ((e : ℕ) → e < length diagram.agents → bytes_eq (agent_name diagram e) name ≡ false) → None ≡ agent_named diagram name
+  unfolding agent_named
+  named_nowhere name fails = sym (none_in_range (λ e. bytes_eq (agent_name diagram e) name) 0 (length diagram.agents) (λ e low under. fails e (omega (arith, under))))
 
   -- each agent is the first of its name
   pub named_again : HasNames diagram → (a : ℕ) → a < length diagram.agents → agent_named diagram (agent_name diagram a) ≡ Some a

@@ -111,7 +111,8 @@ module _ (diagram : PlainDiagram) where
   unfolding number_at
   number_at_ok line i n h =
       let w = bind_ok (word_in line i) number_word n h in
-      (w.0, word_in_ok line i w.0 w.1, number_ok w.0 n w.2)
+      let number = number_ok w.0 n w.2 in
+      (w.0, word_in_ok line i w.0 w.1, number.0, number.1)
 
   number_at_again : (line : Line) (i n : ℕ) (word : Word) → slice_get line.words i ≡ Some word → word.text ≡ decimal n → n ≤ 999999 → number_at i line ≡ Ok n
   unfolding number_at
@@ -279,6 +280,7 @@ kind_by : List ℕ → Option Kind
 kind_by text = find (λ kind. bytes_eq text (keyword kind)) (Header ∷ kinds_behind)
 
 kind_back : (kind : Kind) → kind_by (keyword kind) ≡ Some kind
+unfolding kind_by
 kind_back Header = refl
 kind_back Tells = refl
 kind_back (Gives GoesOn) = refl

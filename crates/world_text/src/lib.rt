@@ -3,7 +3,7 @@
 
 mod lines;
 mod reading;
-mod report;
+mod reporting;
 
 pub use reading::read_schedule;
-pub use report::report;
+pub use reporting::report;

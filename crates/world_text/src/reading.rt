@@ -1,6 +1,6 @@
 //! From the text of a schedule to its events.
 
-ghost use Rattle.std.specs.Prelude.{◌-◌, ◌<◌, ◌^◌, ◌∷◌, ◌++◌, [], All, IfOk, IfErr, length, map};
+ghost use Rattle.std.specs.Prelude.{◌-◌, ◌<◌, ◌^◌, ◌∷◌, ◌++◌, [], All, IfOk, IfErr, drop, length, map};
 ghost use Rattle.nego_base.specs.LineAnswers.{Gives, Tells, FitsLine};
 ghost use Rattle.nego_base.specs.declared.fault.Fault.{Fault};
 ghost use Rattle.nego_base.specs.LineGrammar.{missing_end};
@@ -49,12 +49,14 @@ fn schedule(
     requires count { count < 2 ^ 32 - 1 }
     ensures { Gives (λ s. rows_of (plain_lines s)) result (walk d.now (missing_end count) Begin lines.now) }
 {
-    let [first, rest @ ..] = lines else {
-        return Err(ReadFaults::Off(missing_end(count)));
-    };
-    header(d, first)?;
-    let events = events(alloc, d, rest, count)?;
-    Ok(Schedule { events })
+    match lines.get(0) {
+        Some(first) => {
+            header(d, first)?;
+            let events = events(alloc, d, &lines[1..], count)?;
+            Ok(Schedule { events })
+        }
+        None => Err(ReadFaults::Off(missing_end(count))),
+    }
 }
 
 /// The events of the lines behind the header, of which the last is the end.
@@ -69,29 +71,25 @@ fn events(
     ensures { Gives (λ events. map EventRow (plain_items events) ++ EndRow ∷ []) result (walk d.now (missing_end count) (Behind 0) lines.now) }
 {
     let mut events = Seq::new(alloc);
-    let mut rest = lines;
-    while let [line, after @ ..] = rest {
-        match event(d, events.len(), line)? {
-            Some(event) => events.push(EventLine {
-                line: line.number,
-                event,
-            })?,
-            None => {
-                nothing_behind(d, after)?;
-                return Ok(events);
-            }
-        }
-        rest = after;
+    for line in lines {
+        let Some(event) = event(d, events.len(), line)? else {
+            nothing_behind(d, lines, events.len() + 1)?;
+            return Ok(events);
+        };
+        events.push(EventLine {
+            line: line.number,
+            event,
+        })?;
     }
     Err(ReadFaults::Off(missing_end(count)))
 }
 
-/// That no line is behind the end.
-fn nothing_behind(d: &Diagram, lines: &[Line]) -> Result<(), Fault>
+/// That no line is behind the end, from this place on.
+fn nothing_behind(d: &Diagram, lines: &[Line], i: usize) -> Result<(), Fault>
     requires { All FitsLine lines.now }
-    ensures { (missing : Fault) → Tells (λ _. []) result (walk d.now missing Over lines.now) }
+    ensures { (missing : Fault) → Tells (λ _. []) result (walk d.now missing Over (drop i lines.now)) }
 {
-    match lines.first() {
+    match lines.get(i) {
         Some(line) => Err(line.word(0)?.fault(FaultKind::Word)),
         None => Ok(()),
     }
