@@ -34,20 +34,31 @@ record_line diagram (Decided n o shares) = codes "decision " ++ (step_words diag
 abbrev pub place_words : PlainDiagram → Option ℕ → List ℕ
 place_words diagram at = option_map_or (λ n. codes " at " ++ atom_name diagram n) at (codes " done")
 
--- the agent of a number: where it is, its value, how many records it has, and its records
+-- how many records an agent has, and the records
+abbrev pub journal_lines : PlainDiagram → ℕ → List Entry → List ℕ
+journal_lines diagram count records = codes " records " ++ (decimal count ++ (codes "\n" ++ flat_map (record_line diagram) records))
+
+-- the agent of a number: where it is, its value, and its records
 abbrev pub agent_lines : PlainDiagram → ℕ → PlainAgent → List ℕ
 agent_lines diagram a agent =
-    codes "agent " ++ (agent_name diagram a ++ (place_words diagram agent.at ++ (codes " " ++ (decimal agent.value ++ (codes " records " ++
-    (decimal (length agent.records) ++ (codes "\n" ++ flat_map (record_line diagram) agent.records)))))))
+    codes "agent " ++ (agent_name diagram a ++ (place_words diagram agent.at ++ (codes " " ++ (decimal agent.value ++ journal_lines diagram (length agent.records) agent.records))))
 
 -- how many agents are finished
 abbrev pub finished_count : PlainWorld → ℕ
 finished_count world = length (filter (λ agent. is_none agent.at) world.agents)
 
--- The report of a world after so many events: how many messages were sent, the history, the agents in their order, and how
--- many of them are finished.
+-- how many events there were, and how many messages were sent
+abbrev pub head_lines : PlainWorld → ℕ → List ℕ
+head_lines world events = codes "world 1\nevents " ++ (decimal events ++ (codes "\nsent " ++ (decimal (length world.sent) ++ codes "\n")))
+
+-- the agents in their order
+abbrev pub all_agents : PlainDiagram → PlainWorld → List ℕ
+all_agents diagram world = flat_map (λ a. agent_lines diagram a (agent_of diagram world a)) (range_with_len 0 (length diagram.agents))
+
+-- how many agents are finished, and how many there are
+abbrev pub finished_line : PlainDiagram → PlainWorld → List ℕ
+finished_line diagram world = codes "finished " ++ (decimal (finished_count world) ++ (codes " of " ++ (decimal (length diagram.agents) ++ codes "\n")))
+
+-- The report of a world after so many events: their number, the history, the agents, and how many of them are finished.
 unfoldable pub report_text : PlainDiagram → PlainWorld → ℕ → List ℕ
-report_text diagram world events =
-    codes "world 1\nevents " ++ (decimal events ++ (codes "\nsent " ++ (decimal (length world.sent) ++ (codes "\n" ++ (flat_map (entry_line diagram) world.history ++
-    (flat_map (λ a. agent_lines diagram a (agent_of diagram world a)) (range_with_len 0 (length diagram.agents)) ++
-    (codes "finished " ++ (decimal (finished_count world) ++ (codes " of " ++ (decimal (length diagram.agents) ++ codes "\n"))))))))))
+report_text diagram world events = head_lines world events ++ (flat_map (entry_line diagram) world.history ++ (all_agents diagram world ++ finished_line diagram world))
