@@ -35,13 +35,11 @@ module _ (diagram : PlainDiagram) (ok : IsDiagram diagram) where
       All-cons (IsNamedEntry diagram) entry entries (record { step = step_named entry.step.0 entry.step.1 outcome; joint = next }) (entries_named entries k.0 to entry.joint next k.2 related.1)
 
   pub history_named : (world : PlainWorld) → IsConsistent diagram world → All (IsNamedEntry diagram) world.history
-  history_named world was = by_run (leaves nego (opening_marking nego) (steps_of world.history)) refl was.journals.run.run
+  history_named world was = by_run (leaves (negotiation_of diagram) (opening_marking (negotiation_of diagram)) (steps_of world.history)) refl was.journals.run.run
     where
-      nego = negotiation_of diagram
-
-      by_run : (o : Option PlainMarking) → leaves nego (opening_marking nego) (steps_of world.history) ≡ o → IsSome o → All (IsNamedEntry diagram) world.history
+      by_run : (o : Option PlainMarking) → leaves (negotiation_of diagram) (opening_marking (negotiation_of diagram)) (steps_of world.history) ≡ o → IsSome o → All (IsNamedEntry diagram) world.history
       by_run None e some = absurd cc
-      by_run (Some to) e some = entries_named world.history (opening_marking nego) to world.start was.start e was.journals.run.related
+      by_run (Some to) e some = entries_named world.history (opening_marking (negotiation_of diagram)) to world.start was.start e was.journals.run.related
 
   -- ---- the records of an agent
 

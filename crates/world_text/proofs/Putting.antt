@@ -1,7 +1,7 @@
 -- Lines that are put behind a text one after another.
-use Rattle.std.proofs.Common.{◌≡◌, ℕ, zero, suc, ◌+◌, ◌-◌, ◌<◌, ◌≤◌, Bool, true, false, cond, List, [], ◌∷◌, ◌++◌, length, map, drop, take, filter, get_or, Option, Some, None, option_map, slice_get, refl, sym, ap, subst, ◌∙◌, append_assoc, arith}
+use Rattle.std.proofs.Common.{◌≡◌, ℕ, zero, suc, ◌+◌, ◌-◌, ◌<◌, ◌≤◌, Bool, true, false, cond, List, [], ◌∷◌, ◌++◌, length, map, drop, take, filter, not, get_or, Option, Some, None, option_map, slice_get, refl, sym, ap, subst, ◌∙◌, append_assoc, arith}
 use Rattle.std.specs.List.{flat_map, range_with_len, All}
-use Rattle.std.specs.Option.{is_none}
+use Rattle.std.specs.Option.{is_none, is_some}
 use Rattle.std.proofs.lemmas.List.{get_or-map, length-map, length-take-le}
 use Rattle.std.proofs.lemmas.List.Filters.{length-filter_more}
 use Rattle.nego_base.proofs.BoolLaws.{length-filter_le}
@@ -41,7 +41,7 @@ made_at P f xs i x all within is =
 
 module _ (diagram : PlainDiagram) where
   -- an entry of a history by its occurrence and its data
-  record EntryAt (history : List model.Entry) (i : ℕ) (step : AtomId × OutcomeId) (joint : ℕ) : Type 0 where
+  pub record EntryAt (history : List model.Entry) (i : ℕ) (step : AtomId × OutcomeId) (joint : ℕ) : Type 0 where
     pub within : i < length history
     pub is : record { step = (step.0.0, step.1.0); joint = joint } ≡ get_or history i (record { step = (step.0.0, step.1.0); joint = joint })
 
@@ -56,10 +56,10 @@ module _ (diagram : PlainDiagram) where
       let other : model.Entry = record { step = (step.0.0, step.1.0); joint = joint } in
       let entry = get_or history i other in
       let there : slice_get history i ≡ Some entry = slice_get-get_or history i other inside in
-      let data : entry.joint ≡ joint = same_Some entry.joint joint (sym (ap (option_map (λ (e : model.Entry). e.joint)) there) ∙ at) in
+      let after : entry.joint ≡ joint = same_Some entry.joint joint (sym (ap (option_map (λ (e : model.Entry). e.joint)) there) ∙ at) in
       let here : get_or (occurrences run) i (step.0.0, step.1.0) ≡ (step.0.0, step.1.0) = get_or-map (λ (s : AtomId × OutcomeId). (s.0.0, s.1.0)) run i step (step.0.0, step.1.0) within ∙ ap (λ (s : AtomId × OutcomeId). (s.0.0, s.1.0)) (sym is) in
       let occurs : entry.step ≡ (step.0.0, step.1.0) = sym (get_or-map (λ (e : model.Entry). e.step) history i other (step.0.0, step.1.0) inside) ∙ (ap (λ (steps : List (ℕ × ℕ)). get_or steps i (step.0.0, step.1.0)) (sym same) ∙ here) in
-      record { within = inside; is = entry_is entry step.0.0 step.1.0 joint occurs data }
+      record { within = inside; is = entry_is entry step.0.0 step.1.0 joint occurs after }
 
   pub entry_named : (history : List model.Entry) (i : ℕ) (step : AtomId × OutcomeId) (joint : ℕ) → EntryAt history i step joint → All (IsNamedEntry diagram) history → IsNamedEntry diagram (record { step = (step.0.0, step.1.0); joint = joint })
   entry_named history i step joint at all =
@@ -86,6 +86,12 @@ module _ (diagram : PlainDiagram) where
 pub is_none-map : {A B : Type 0} (f : A → B) (o : Option A) → is_none (option_map f o) ≡ is_none o
 is_none-map f None = refl
 is_none-map f (Some x) = refl
+
+pub none_is : {A : Type 0} (o : Option A) (r : Bool) → not r ≡ is_some o → is_none o ≡ r
+none_is None true h = refl
+none_is None false h = absurd cc
+none_is (Some x) true h = absurd cc
+none_is (Some x) false h = refl
 
 -- how many of the first agents are finished
 abbrev pub finished_among : List PlainAgent → ℕ

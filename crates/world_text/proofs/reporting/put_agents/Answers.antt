@@ -12,13 +12,13 @@ pub put_agent-requires-clause-valid : goal.put_agent-requires-clause-valid
 put_agent-requires-clause-valid c =
     let d = c.args.d.now in
     subst (λ (agent : PlainAgent). IsValid d agent) (agent_is d c.args.w.now c.loop-a.a c.agent.result.now.plain c.agent.ensures)
-    (valid-each d c.agents-a-end.ensures.diagram c.requires.deterministic c.args.w.now c.loop-a.a c.requires.consistent (omega (arith, c.loop-a-test.true, c.agents-a-end.ensures.value)))
+    (valid-each d c.agents-a-end.ensures.diagram c.requires.deterministic c.args.w.now c.requires.consistent c.loop-a.a (omega (arith, c.loop-a-test.true, c.agents-a-end.ensures.value)))
 
 pub put_agent-requires-clause-records : goal.put_agent-requires-clause-records
 put_agent-requires-clause-records c =
     let d = c.args.d.now in
     records_named d c.agents-a-end.ensures.diagram c.agent.result.now.plain (subst (λ (agent : PlainAgent). IsValid d agent) (agent_is d c.args.w.now c.loop-a.a c.agent.result.now.plain c.agent.ensures)
-    (valid-each d c.agents-a-end.ensures.diagram c.requires.deterministic c.args.w.now c.loop-a.a c.requires.consistent (omega (arith, c.loop-a-test.true, c.agents-a-end.ensures.value))))
+    (valid-each d c.agents-a-end.ensures.diagram c.requires.deterministic c.args.w.now c.requires.consistent c.loop-a.a (omega (arith, c.loop-a-test.true, c.agents-a-end.ensures.value))))
 
 pub loop-a-preserved : goal.loop-a-preserved
 loop-a-preserved c =

@@ -7,10 +7,10 @@ use Rattle.world_text.specs.ReportText.{journal_lines}
 use Rattle.world_text.proofs.reporting.put_journal.Goals as goal
 
 pub put_counted-requires : goal.put_counted-requires
-put_counted-requires c = subst (λ (rs : List Entry). All (IsNamedRecord c.args.d.now) rs) (sym c.records.ensures) c.requires
+put_counted-requires c = subst (λ (rs : List Entry). All (IsNamedRecord c.args.d.now) rs) (sym c.records-records.ensures) c.requires
 
 pub returns : goal.returns
 returns c =
-    let count : length c.records.result.now ≡ length c.args.agent.now.plain.records = sym (length-map c.records.result.now entry) ∙ ap length c.records.ensures in
-    let counted = subst (λ n. OnOk c.put_counted.result (c.put_counted.new.text ≡ c.args.text.now ++ journal_lines c.args.d.now n (map entry c.records.result.now))) count c.put_counted.ensures in
-    subst (λ (rs : List Entry). OnOk c.put_counted.result (c.put_counted.new.text ≡ c.args.text.now ++ journal_lines c.args.d.now (length c.args.agent.now.plain.records) rs)) c.records.ensures counted
+    let count : length c.records-records.result.now ≡ length c.args.agent.now.plain.records = sym (length-map c.records-records.result.now entry) ∙ ap length c.records-records.ensures in
+    let counted = subst (λ n. OnOk c.put_counted.result (c.put_counted.new.text ≡ c.args.text.now ++ journal_lines c.args.d.now n (map entry c.records-records.result.now))) count c.put_counted.ensures in
+    subst (λ (rs : List Entry). OnOk c.put_counted.result (c.put_counted.new.text ≡ c.args.text.now ++ journal_lines c.args.d.now (length c.args.agent.now.plain.records) rs)) c.records-records.ensures counted
