@@ -241,8 +241,12 @@ module _ (diagram : PlainDiagram) where
       let second = text_there line those 1 (agent_name diagram a) words refl in
       let third = text_there line those 2 (decimal choice.outcome) words refl in
       let fourth = text_there line those 3 (decimal choice.pick) words refl in
-      rw (begins_again line 4 n first.0 (texts_count line those words) first.1 room, agent_at_again names line 1 a second.0 second.1 second.2 known,
-      number_at_again line 2 choice.outcome third.0 third.1 third.2 outcome, number_at_again line 3 choice.pick fourth.0 fourth.1 fourth.2 pick) refl
+      rw (
+        begins_again line 4 n first.0 (texts_count line those words) first.1 room,
+        agent_at_again names line 1 a second.0 second.1 second.2 known,
+        number_at_again line 2 choice.outcome third.0 third.1 third.2 outcome,
+        number_at_again line 3 choice.pick fourth.0 fourth.1 fourth.2 pick,
+      ) refl
 
   header_again : (line : Line) → texts line ≡ codes "schedule" ∷ codes "1" ∷ [] → header_in line ≡ Ok tt
   unfolding header_in

@@ -104,9 +104,11 @@ module _ (diagram : PlainDiagram) where
         let new : EventLine = record { line = line.number; event = event } in
         let row : row_in diagram (Behind i) line ≡ Ok (event_row line (plain_event event)) =
         subst (λ (m : ℕ). row_in diagram (Behind m) line ≡ Ok (event_row line (plain_event event))) (counted ∙ so_far.0) (h ∙ ap (λ (o : Option Event). Ok (said_in line o)) some) in
-        let longer : length (events ++ new ∷ []) ≡ i + 1 = length-append events (new ∷ []) ∙ ap (λ (m : ℕ). m + 1) so_far.0 in
-        (longer, subst (λ (items : List (ℕ × PlainEvent)). onto (map EventRow items) (walk diagram missing (Behind (i + 1)) (drop (i + 1) lines)) ≡ total)
-        (sym (map_push (λ (item : EventLine). (item.line, plain_event item.event)) events new)) (event_on (plain_items events) lines i line (line.number, plain_event event) inside is row so_far.1))
+        let longer : length (events ++ new ∷ []) ≡ i + 1 = length-append events (new ∷ []) ∙ ap (λ (m : ℕ). m + 1) so_far.0 in (
+          longer,
+          subst (λ (items : List (ℕ × PlainEvent)). onto (map EventRow items) (walk diagram missing (Behind (i + 1)) (drop (i + 1) lines)) ≡ total)
+              (sym (map_push (λ (item : EventLine). (item.line, plain_event item.event)) events new)) (event_on (plain_items events) lines i line (line.number, plain_event event) inside is row so_far.1),
+        )
 
     -- the line is the end, and none is behind it
     pub end_only : (events : List EventLine) (lines : List Line) (i n m : ℕ) (line : Line) (said : Option Event) (behind : Result (List Row) Fault) → i < length lines → line ≡ get_or lines i line → n ≡ length events → m ≡ length events → said ≡ None →

@@ -39,12 +39,7 @@ fn names_differ(d: &Diagram)
 }
 
 /// The schedule that the lines say, where the text has so many lines.
-fn schedule(
-    alloc: Global,
-    d: &Diagram,
-    lines: &[Line],
-    count: u32,
-) -> Result<Schedule, ReadFaults>
+fn schedule(alloc: Global, d: &Diagram, lines: &[Line], count: u32) -> Result<Schedule, ReadFaults>
     requires lines { All FitsLine lines.now }
     requires count { count < 2 ^ 32 - 1 }
     ensures { Gives (λ s. rows_of (plain_lines s)) result (walk d.now (missing_end count) Begin lines.now) }

@@ -252,13 +252,7 @@ fn put_shares(
 }
 
 /// Puts a party of a decision behind the text, with its visit and its value after.
-fn put_share(
-    text: &mut Text,
-    d: &Diagram,
-    a: AgentId,
-    visit: u16,
-    after: u16,
-) -> Result<(), Memory>
+fn put_share(text: &mut Text, d: &Diagram, a: AgentId, visit: u16, after: u16) -> Result<(), Memory>
     requires { a.0 < length d.now.agents }
     ensures { OnOk result (text.new ≡ text.old ++ share_words d.now (record { agent = a.0; visit = visit; after = after })) }
 {
