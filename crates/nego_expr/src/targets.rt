@@ -67,7 +67,7 @@ impl Targets {
     }
 
     /// How these targets compare with others: agent by agent, where nothing is below each atom.
-    pub(crate) fn compare(&self, other: &Targets) -> Ordering
+    pub fn compare(&self, other: &Targets) -> Ordering
         ensures { result ≡ slice_cmp (option_cmp nat_cmp) self.now other.now }
     {
         self.entries.as_slice().cmp(other.entries.as_slice())
