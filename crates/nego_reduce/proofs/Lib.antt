@@ -1,4 +1,13 @@
+pub mod Growing
+pub mod Guards
+pub mod LeastEntry
+pub mod MadeNext
 pub mod NextUses
+pub mod OneAtom
+pub mod Reductions
+pub mod Rounds
+pub mod Searching
+pub mod Twins
 pub mod UsesLead
-pub mod complete
 pub mod bound
+pub mod complete

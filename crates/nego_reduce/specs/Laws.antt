@@ -11,7 +11,16 @@ use Rattle.nego_expr.specs.Lead.{Lead}
 use Rattle.nego_expr.specs.StandsFor.{IsFresh}
 use Rattle.nego_reduce.specs.Order.{IsNextUse, HasNoIteration, HasNoNextUse, Reduces, has_passed}
 use Rattle.nego_reduce.specs.Bound.{AreFew, nodes_made_by}
-use Rattle.nego_reduce.specs.Reducing.{IsFull}
+use Rattle.nego_reduce.specs.declared.reduced.Reduced.{Reduced}
+use Rattle.nego_reduce.specs.Reducing.{plain_reduced, IsReductionOf, IsFull}
+
+-- A work of one atom allows no use.
+abbrev pub OneAtomAllowsNoUse : Type 0
+OneAtomAllowsNoUse = (work : PlainWork) → IsWork work → length work.atoms ≡ 1 → (next : PlainUse) → allows work next ≡ false
+
+-- A work has at most one reduction: verdict, uses, and the summary or the work that is left are determined.
+abbrev pub ReductionsAreOne : Type 0
+ReductionsAreOne = (work : PlainWork) (one two : Reduced) → IsReductionOf work one → IsReductionOf work two → plain_reduced one ≡ plain_reduced two
 
 -- The uses that are made of a fresh work are few.
 abbrev pub UsesAreFew : Type 0

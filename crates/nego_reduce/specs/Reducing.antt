@@ -1,7 +1,6 @@
 -- What reduction makes of a work.
-use Rattle.std.specs.Prelude.{◌≡◌, ◌↔◌, ⊤, ℕ, ◌<◌, List, length, map}
+use Rattle.std.specs.Prelude.{◌↔◌, ⊤, ◌<◌, List, length, map}
 use Rattle.nego_model.specs.Occurring.{IsSound}
-use Rattle.nego_model.specs.Acyclic.{IsAcyclic}
 use Rattle.nego_model.specs.Diagram.{PlainDiagram, negotiation_of}
 use Rattle.nego_model.specs.Summary.{PlainSummary}
 use Rattle.nego_expr.specs.Work.{PlainWork}
@@ -9,12 +8,9 @@ use Rattle.nego_expr.specs.Use.{PlainUse, after_use, most_nodes}
 use Rattle.nego_expr.specs.UseView.{plain_use}
 use Rattle.nego_expr.specs.SummaryText.{plain_summary}
 use Rattle.nego_expr.specs.Lead.{Lead}
-use Rattle.nego_expr.specs.Finish.{summary_of_work}
-use Rattle.nego_expr.specs.StandsFor.{IsFresh}
 use Rattle.nego_reduce.specs.declared.reduced.Reduced.{Reduced}
 use Rattle.nego_reduce.specs.declared.reduced.Reduced.TheVariants.{One, Stuck, NodeLimit}
 use Rattle.nego_reduce.specs.Order.{IsNextUse, HasNoNextUse, Reduces}
-use Rattle.nego_reduce.specs.Bound.{AreFew}
 
 -- More than one atom is left, and no use is the next one.
 pub record IsStuck (work : PlainWork) : Type 0 where
@@ -26,6 +22,18 @@ pub record IsFull (work : PlainWork) : Type 0 where
   pub next : PlainUse
   pub is_next : IsNextUse work next
   pub too_many : most_nodes < length (after_use work next).nodes
+
+-- what is left of a work, and the uses that were made of it, as plain data
+pub data PlainReduced : Type 0 where
+  OneLeft : PlainSummary → List PlainUse → PlainReduced
+  StuckAt : PlainWork → List PlainUse → PlainReduced
+  FullAt : PlainWork → List PlainUse → PlainReduced
+
+-- the same, without the wrapping of numbers and the room for more
+abbrev pub plain_reduced : Reduced → PlainReduced
+plain_reduced (One summary uses) = OneLeft (plain_summary summary) (map plain_use uses)
+plain_reduced (Stuck left uses) = StuckAt left.plain (map plain_use uses)
+plain_reduced (NodeLimit left uses) = FullAt left.plain (map plain_use uses)
 
 -- the uses that were made
 abbrev pub uses_of : Reduced → List PlainUse

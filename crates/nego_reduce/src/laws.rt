@@ -1,12 +1,29 @@
 //! Laws of the order of uses. Each function does nothing; its clause is the law.
 
 ghost use Rattle.nego_reduce.specs.Order.{NextUsesAreOne};
+ghost use Rattle.nego_reduce.specs.Laws.{OneAtomAllowsNoUse, ReducedTells, ReductionsAreOne};
 ghost use Rattle.nego_expr.specs.Keeps.{UsesKeep};
 ghost use Rattle.nego_reduce.specs.Laws.{AcyclicWorksStayRanked, PassedAtomsNeverHinder, AcyclicIsDecided, SoundAcyclicWorksGoOn, UsesAreFew, AliveAreOfTheDiagram, AcyclicIsNeverFull, AcyclicNodesAreCounted, AcyclicNodesAreFew};
 
 /// A work has at most one next use, so that the uses of the order are determined.
 pub fn next_uses_are_one()
     ensures { NextUsesAreOne }
+{}
+
+/// A work has at most one reduction: whether one atom is left, it is stuck, or there would be too many nodes; the uses that
+/// were made; and the summary or the work that is left.
+pub fn reductions_are_one()
+    ensures { ReductionsAreOne }
+{}
+
+/// A work of one atom allows no use.
+pub fn one_atom_allows_no_use()
+    ensures { OneAtomAllowsNoUse }
+{}
+
+/// The summary to which a diagram is reduced tells the diagram.
+pub fn reduced_tells()
+    ensures { ReducedTells }
 {}
 
 /// Each use that a work allows, by whichever rule, leaves a work and keeps what this one was.

@@ -9,8 +9,9 @@ ghost use Rattle.nego_reduce.specs.Bound.{AreFew, most_tests};
 ghost use Rattle.nego_reduce.specs.Reducing.{IsReductionOf, IsDecided, uses_of};
 
 use crate::Reduced;
+use crate::next::{make_use, next_use};
 use nego_base::{Memory, Steps};
-use nego_expr::Work;
+use nego_expr::{RuleFault, Uses, Work};
 use std::alloc::Global;
 use std::sync::ledger::Ledger;
 
@@ -18,7 +19,7 @@ use std::sync::ledger::Ledger;
 /// Each guard that is tested is one step. The work is one that `Work::new` makes of a diagram.
 pub fn reduce<C: Ledger>(
     alloc: Global,
-    work: Work,
+    mut work: Work,
     steps: &mut Steps<C>,
 ) -> Result<Reduced, Memory>
     requires work { IsWork work.plain }
@@ -30,5 +31,19 @@ pub fn reduce<C: Ledger>(
     ensures later { steps.old ≤ steps.new }
     ensures tests { (d : PlainDiagram) → IsFresh work.plain d → IsAcyclic (negotiation_of d) → steps.new ≤ steps.old + most_tests d }
 {
-    Err(Memory)
+    let mut uses = Uses::new(alloc);
+    while let Some(u) = next_use(&work, steps) {
+        steps.tick();
+        match make_use(&mut work, u) {
+            Ok(()) => uses.push(u)?,
+            Err(RuleFault::Nodes) => return Ok(Reduced::NodeLimit(work, uses)),
+            Err(RuleFault::Memory) => return Err(Memory),
+            Err(RuleFault::Guard) => unreachable!(),
+        }
+    }
+    if work.left().count() > 1 {
+        return Ok(Reduced::Stuck(work, uses));
+    }
+    let summary = work.finish()?;
+    Ok(Reduced::One(summary, uses))
 }
