@@ -1,0 +1,6 @@
+//! The generator: diagrams of any number of atoms from 2 to 64, to try things on.
+#![tactic(auto)]
+
+mod making;
+
+pub use making::make_diagram;
