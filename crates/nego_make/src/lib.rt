@@ -2,5 +2,10 @@
 #![tactic(auto)]
 
 mod making;
+mod outcomes;
+mod parties;
+#[cfg(test)]
+mod tests;
+mod words;
 
 pub use making::make_diagram;

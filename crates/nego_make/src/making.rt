@@ -1,18 +1,57 @@
 //! A made diagram as a text's value.
-ghost use Rattle.std.specs.Prelude.{◌≡◌, ◌≤◌, IfOk};
+ghost use Rattle.std.specs.Prelude.{◌≡◌, ◌<◌, ◌≤◌, map, IfOk};
+ghost use Rattle.std.specs.List.{range_with_len};
 ghost use Rattle.nego_model.specs.Negotiation.{IsDeterministic};
 ghost use Rattle.nego_model.specs.Acyclic.{IsAcyclic};
 ghost use Rattle.nego_model.specs.Diagram.{negotiation_of};
-ghost use Rattle.nego_reader.specs.Content.{content_of};
+ghost use Rattle.nego_reader.specs.Content.{agent_content, atom_content, content_of};
 ghost use Rattle.nego_reader.specs.Printable.{IsPrintableDiagram, FitsPart};
 ghost use Rattle.nego_shape.specs.Naming.{diagram_in};
 ghost use Rattle.nego_shape.specs.Conditions.{HasShape};
 ghost use Rattle.nego_shape.specs.Shaped.{HasNameWords};
-ghost use Rattle.nego_make.specs.Generated.{generated};
+ghost use Rattle.nego_make.specs.Generated.{everyone, agent, atom, generated};
 
-use nego_base::Memory;
-use nego_reader::Parsed;
+use crate::outcomes::outcomes;
+use crate::parties::{everyone, parties};
+use crate::words::{agent_name, agent_names, atom_name};
+use nego_base::{Memory, Seq};
+use nego_reader::{PAgent, PAtom, Parsed};
 use std::alloc::Global;
+
+/// The agents.
+fn agents(alloc: Global) -> Result<Seq<PAgent>, Memory>
+    ensures { IfOk result (λ agents. map agent_content agents ≡ map agent everyone) }
+{
+    let mut agents = Seq::new(alloc);
+    for a in everyone() {
+        let name = agent_name(alloc, *a)?;
+        agents.push(PAgent { name, size: 4 })?;
+    }
+    Ok(agents)
+}
+
+/// Atom i of n.
+fn atom(alloc: Global, n: u32, i: u32) -> Result<PAtom, Memory>
+    requires { i < n }
+    ensures { IfOk result (λ made. atom_content made ≡ atom n i) }
+{
+    Ok(PAtom {
+        name: atom_name(alloc, i)?,
+        parties: agent_names(alloc, parties(n, i))?,
+        outs: outcomes(alloc, n, i)?,
+    })
+}
+
+/// The atoms.
+fn atoms(alloc: Global, n: u32) -> Result<Seq<PAtom>, Memory>
+    ensures { IfOk result (λ atoms. map atom_content atoms ≡ map (atom n) (range_with_len 0 n)) }
+{
+    let mut atoms = Seq::new(alloc);
+    for i in 0..n {
+        atoms.push(atom(alloc, n, i)?)?;
+    }
+    Ok(atoms)
+}
 
 /// The diagram of n atoms that the generator makes, n from 2 to 64. No rule of shape refuses it, it is deterministic and
 /// acyclic, and its printed text is an input.
@@ -27,5 +66,10 @@ pub fn make_diagram(alloc: Global, n: u32) -> Result<Parsed, Memory>
     ensures printable { IfOk result IsPrintableDiagram }
     ensures fits { IfOk result (FitsPart 262144) }
 {
-    Err(Memory)
+    Ok(Parsed {
+        agents: agents(alloc)?,
+        atoms: atoms(alloc, n)?,
+        first: atom_name(alloc, 0)?,
+        last: atom_name(alloc, n - 1)?,
+    })
 }

@@ -1,0 +1,9 @@
+mod Steps
+mod Names
+mod Moves
+mod OutcomeKinds
+mod Conditions
+mod Edges
+mod NameWords
+mod GoodLines
+mod PrintedMade
