@@ -53,6 +53,19 @@ fn atoms(alloc: Global, n: u32) -> Result<Seq<PAtom>, Memory>
     Ok(atoms)
 }
 
+/// The value that says the diagram of n atoms.
+fn parsed(alloc: Global, n: u32) -> Result<Parsed, Memory>
+    requires { 0 < n }
+    ensures { IfOk result (λ p. content_of p ≡ generated n) }
+{
+    Ok(Parsed {
+        agents: agents(alloc)?,
+        atoms: atoms(alloc, n)?,
+        first: atom_name(alloc, 0)?,
+        last: atom_name(alloc, n - 1)?,
+    })
+}
+
 /// The diagram of n atoms that the generator makes, n from 2 to 64. No rule of shape refuses it, it is deterministic and
 /// acyclic, and its printed text is an input.
 pub fn make_diagram(alloc: Global, n: u32) -> Result<Parsed, Memory>
@@ -66,10 +79,5 @@ pub fn make_diagram(alloc: Global, n: u32) -> Result<Parsed, Memory>
     ensures printable { IfOk result IsPrintableDiagram }
     ensures fits { IfOk result (FitsPart 262144) }
 {
-    Ok(Parsed {
-        agents: agents(alloc)?,
-        atoms: atoms(alloc, n)?,
-        first: atom_name(alloc, 0)?,
-        last: atom_name(alloc, n - 1)?,
-    })
+    parsed(alloc, n)
 }
