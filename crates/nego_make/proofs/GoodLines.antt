@@ -94,10 +94,11 @@ three_words a b c = length-append a (32 ∷ printed_line (b ∷ c ∷ [])) ∙ (
 good_term : (term : PTerm) → IsGoodTerm (term_content term) → IsTerm term × (length (term_text term) ≤ 4)
 good_term terms.Any h = absurd h
 good_term (terms.Number n) h = (omega (arith, h), let l = digit_short n (omega (arith, h)) in omega (arith, l))
-good_term (terms.Plus w n) h =
-    ((h.0, omega (arith, h.2)),
-    cond_both (n == 0) w.text (w.text ++ codes "+" ++ decimal n) (λ t. length t ≤ 4) (λ _. omega (arith, h.1))
-    (λ _. let l = digit_short n (omega (arith, h.2)) in omega (arith, h.1, l, length-append (w.text ++ codes "+") (decimal n), length-append w.text (codes "+"))))
+good_term (terms.Plus w n) h = (
+  (h.0, omega (arith, h.2)),
+  cond_both (n == 0) w.text (w.text ++ codes "+" ++ decimal n) (λ t. length t ≤ 4) (λ _. omega (arith, h.1))
+      (λ _. let l = digit_short n (omega (arith, h.2)) in omega (arith, h.1, l, length-append (w.text ++ codes "+") (decimal n), length-append w.text (codes "+"))),
+)
 good_term (terms.Minus w n) h = absurd h
 
 good_set : (set : PSet) → IsGoodSet (set_content set) → IsSet set × (length (set_text set) ≤ 8)
@@ -137,19 +138,21 @@ good_out out h =
     let nexts = map NextRow out.nexts in
     let l = h.short in
     let c = h.one_case in
-    let m = h.few_nexts in
-    (All-cons IsGood (OutRow out.name) (cases ++ nexts) (record { fit = h.name; short = omega (arith, l, two_words (codes "out") out.name.text) })
-    (All-append IsGood cases nexts
-    (All-map IsGood CaseRow out.cases (All-weaker (λ x. IsGoodCase (case_content x)) (λ x. IsGood (CaseRow x)) good_case out.cases (All-unmap IsGoodCase case_content out.cases h.cases)))
-    (All-map IsGood NextRow out.nexts (All-weaker (λ x. IsGoodNext (next_content x)) (λ x. IsGood (NextRow x)) good_next out.nexts (All-unmap IsGoodNext next_content out.nexts h.nexts)))),
-    omega (arith, c, m, length-append cases nexts, length-map out.cases CaseRow, length-map out.nexts NextRow, length-map out.cases case_content, length-map out.nexts next_content))
+    let m = h.few_nexts in (
+      All-cons IsGood (OutRow out.name) (cases ++ nexts) (record { fit = h.name; short = omega (arith, l, two_words (codes "out") out.name.text) })
+          (All-append IsGood cases nexts
+          (All-map IsGood CaseRow out.cases (All-weaker (λ x. IsGoodCase (case_content x)) (λ x. IsGood (CaseRow x)) good_case out.cases (All-unmap IsGoodCase case_content out.cases h.cases)))
+          (All-map IsGood NextRow out.nexts (All-weaker (λ x. IsGoodNext (next_content x)) (λ x. IsGood (NextRow x)) good_next out.nexts (All-unmap IsGoodNext next_content out.nexts h.nexts)))),
+      omega (arith, c, m, length-append cases nexts, length-map out.cases CaseRow, length-map out.nexts NextRow, length-map out.cases case_content, length-map out.nexts next_content),
+    )
 
 -- rows that each item has
 module _ {X : Type 0} (rows : X → List Row) (most : ℕ) where
   pieces : (xs : List X) → All (λ x. All IsGood (rows x) × (length (rows x) ≤ most)) xs → All IsGood (flat_map rows xs) × (length (flat_map rows xs) ≤ length xs * most)
-  pieces xs h =
-      (good xs h,
-      (let n = length-flat_map rows xs in let l = sum_by-le (λ x. length (rows x)) most xs (All-weaker (λ x. All IsGood (rows x) × (length (rows x) ≤ most)) (λ x. length (rows x) ≤ most) (λ x p. p.1) xs h) in omega (arith, n, l)))
+  pieces xs h = (
+    good xs h,
+    (let n = length-flat_map rows xs in let l = sum_by-le (λ x. length (rows x)) most xs (All-weaker (λ x. All IsGood (rows x) × (length (rows x) ≤ most)) (λ x. length (rows x) ≤ most) (λ x p. p.1) xs h) in omega (arith, n, l)),
+  )
     where
       good : (ys : List X) → All (λ x. All IsGood (rows x) × (length (rows x) ≤ most)) ys → All IsGood (flat_map rows ys)
       good [] k = All-nil IsGood
@@ -161,9 +164,10 @@ unfolding atom_rows
 good_atom atom h =
     let outs = pieces out_rows 66 atom.outs (All-weaker (λ x. IsGoodOut (out_content x)) (λ x. All IsGood (out_rows x) × (length (out_rows x) ≤ 66)) good_out atom.outs (All-unmap IsGoodOut out_content atom.outs h.outs)) in
     let few = h.few_outs in
-    let count = length-map atom.outs out_content in
-    (All-cons IsGood (AtomRow atom.name atom.parties) (flat_map out_rows atom.outs) (record { fit = name_words (atom.name ∷ atom.parties) h.names; short = h.short }) outs.0,
-    omega (arith, outs.1, few, count))
+    let count = length-map atom.outs out_content in (
+      All-cons IsGood (AtomRow atom.name atom.parties) (flat_map out_rows atom.outs) (record { fit = name_words (atom.name ∷ atom.parties) h.names; short = h.short }) outs.0,
+      omega (arith, outs.1, few, count),
+    )
 
 good_agent : (agent : PAgent) → IsNameText agent.name.text × (length agent.name.text ≤ 2) × (agent.size ≤ 9) → IsGood (AgentRow agent)
 good_agent agent h = record {
@@ -185,17 +189,18 @@ good_rows p h =
     let last = All-head IsGoodEnd p.last.text [] (All-tail IsGoodEnd p.first.text (p.last.text ∷ []) h.ends) in
     let r = pieces atom_rows 133 p.atoms (All-weaker (λ x. IsGoodAtom (atom_content x)) (λ x. All IsGood (atom_rows x) × (length (atom_rows x) ≤ 133)) good_atom p.atoms (All-unmap IsGoodAtom atom_content p.atoms h.atoms)) in
     let a = h.few_agents in
-    let m = h.few_atoms in
-    (All-cons IsGood HeaderRow (agents ++ atoms ++ ends) (record { fit = tt; short = omega arith })
-    (All-append IsGood (agents ++ atoms) ends
-    (All-append IsGood agents atoms
-    (All-map IsGood AgentRow p.agents (All-weaker (λ x. IsNameText x.name.text × (length x.name.text ≤ 2) × (x.size ≤ 9)) (λ x. IsGood (AgentRow x)) good_agent p.agents
-    (All-unmap (λ agent. IsNameText agent.name × (length agent.name ≤ 2) × (agent.size ≤ 9)) agent_content p.agents h.agents)))
-    r.0)
-    (All-cons IsGood (FirstRow p.first) (LastRow p.last ∷ EndRow ∷ []) (record { fit = first.0; short = omega (arith, first.1, two_words (codes "first") p.first.text) })
-    (All-cons IsGood (LastRow p.last) (EndRow ∷ []) (record { fit = last.0; short = omega (arith, last.1, two_words (codes "last") p.last.text) })
-    (one IsGood EndRow (record { fit = tt; short = omega arith }))))),
-    omega (arith, r.1, a, m, length-append (agents ++ atoms) ends, length-append agents atoms, length-map p.agents AgentRow, length-map p.agents agent_content, length-map p.atoms atom_content))
+    let m = h.few_atoms in (
+      All-cons IsGood HeaderRow (agents ++ atoms ++ ends) (record { fit = tt; short = omega arith })
+          (All-append IsGood (agents ++ atoms) ends
+          (All-append IsGood agents atoms
+          (All-map IsGood AgentRow p.agents (All-weaker (λ x. IsNameText x.name.text × (length x.name.text ≤ 2) × (x.size ≤ 9)) (λ x. IsGood (AgentRow x)) good_agent p.agents
+          (All-unmap (λ agent. IsNameText agent.name × (length agent.name ≤ 2) × (agent.size ≤ 9)) agent_content p.agents h.agents)))
+          r.0)
+          (All-cons IsGood (FirstRow p.first) (LastRow p.last ∷ EndRow ∷ []) (record { fit = first.0; short = omega (arith, first.1, two_words (codes "first") p.first.text) })
+          (All-cons IsGood (LastRow p.last) (EndRow ∷ []) (record { fit = last.0; short = omega (arith, last.1, two_words (codes "last") p.last.text) })
+          (one IsGood EndRow (record { fit = tt; short = omega arith }))))),
+      omega (arith, r.1, a, m, length-append (agents ++ atoms) ends, length-append agents atoms, length-map p.agents AgentRow, length-map p.agents agent_content, length-map p.atoms atom_content),
+    )
 
 pub good_printable : (p : Parsed) → IsGoodContent (content_of p) → IsPrintableDiagram p
 good_printable p h =

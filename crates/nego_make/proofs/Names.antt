@@ -27,10 +27,10 @@ names_differ letter low (x ∷ xs) r below =
     let rest = All-tail (λ y. y < 64) x xs below in
     AllPairs-cons (λ one two. one ≢ two) (name x) (map name xs)
     (All-map (λ other. name x ≢ other) name xs (All-members (λ y. name x ≢ name y) xs (λ y m e.
-      let small : y < 64 = All-member64 y m rest in
-      let same : x ≡ y = decimal_injective x y (omega (arith, here)) (omega (arith, small)) (ap (drop 1) e) in
-      let above : x + 1 ≤ y = member_from (x + 1) y xs r.1 m in
-      omega (arith, same, above))))
+    let small : y < 64 = All-member64 y m rest in
+    let same : x ≡ y = decimal_injective x y (omega (arith, here)) (omega (arith, small)) (ap (drop 1) e) in
+    let above : x + 1 ≤ y = member_from (x + 1) y xs r.1 m in
+    omega (arith, same, above))))
     (names_differ letter (x + 1) xs r.1 rest)
   where
     name : ℕ → List ℕ

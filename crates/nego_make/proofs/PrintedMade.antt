@@ -55,10 +55,10 @@ good_sum : (p q k : ℕ) → p < 4 → q < 4 → k ≤ 1 → IsGoodCase (plain (
 good_sum p q k hp hq hk = record {
   demands_nothing = refl;
   sets = one IsGoodSet (record { agent = agent_name p; term = PlusTerm (agent_name q) k }) (record {
-      name = agent_named p hp;
-      short = (let s = agent_short p hp in omega (arith, s));
-      term = (agent_named q hq, (let s = agent_short q hq in omega (arith, s)), hk);
-    });
+    name = agent_named p hp;
+    short = (let s = agent_short p hp in omega (arith, s));
+    term = (agent_named q hq, (let s = agent_short q hq in omega (arith, s)), hk);
+  });
   few = omega arith;
 }
 

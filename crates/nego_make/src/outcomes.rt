@@ -51,12 +51,7 @@ fn next_lines(alloc: Global, n: u32, i: u32) -> Result<Seq<PNext>, Memory>
 }
 
 /// An outcome with one case that demands nothing.
-fn outcome(
-    alloc: Global,
-    name: &[u8],
-    sets: Seq<PSet>,
-    nexts: Seq<PNext>,
-) -> Result<POut, Memory>
+fn outcome(alloc: Global, name: &[u8], sets: Seq<PSet>, nexts: Seq<PNext>) -> Result<POut, Memory>
     ensures { IfOk result (λ out. out_content out ≡ outcome name.now (map set_content sets) (map next_content nexts)) }
 {
     let mut cases = Seq::new(alloc);

@@ -22,14 +22,14 @@ loop-j-preserved c =
     let tested = ap (λ (m : ℕ). not (m == 0)) (sym count) in
     elim c.if-not-is_empty.branch [
       | then-not-is_empty+in_ok-push w ↦ (
-          pushed_in next_content f test so_far j c.loop-j.nexts c.if-not-is_empty.nexts line (w.nexts-is ∙ w.in_ok-push.ensures.ok) c.loop-j.invariant.0 c.in_ok-line.ensures
-              (tested ∙ ap not (sym c.is_empty.ensures ∙ w.if-not-is_empty.true)) ∙ grown,
-          omega (arith, c.loop-j.invariant.1),
-          omega (arith, c.loop-j-test.true),
-        )
+        pushed_in next_content f test so_far j c.loop-j.nexts c.if-not-is_empty.nexts line (w.nexts-is ∙ w.in_ok-push.ensures.ok) c.loop-j.invariant.0 c.in_ok-line.ensures
+            (tested ∙ ap not (sym c.is_empty.ensures ∙ w.if-not-is_empty.true)) ∙ grown,
+        omega (arith, c.loop-j.invariant.1),
+        omega (arith, c.loop-j-test.true),
+      )
       | else-not-is_empty w ↦ (
-          ap (map next_content) w.nexts-is ∙ (left_out next_content f test so_far j c.loop-j.nexts c.loop-j.invariant.0 (tested ∙ ap not (sym c.is_empty.ensures ∙ w.if-not-is_empty.false)) ∙ grown),
-          omega (arith, c.loop-j.invariant.1),
-          omega (arith, c.loop-j-test.true),
-        )
+        ap (map next_content) w.nexts-is ∙ (left_out next_content f test so_far j c.loop-j.nexts c.loop-j.invariant.0 (tested ∙ ap not (sym c.is_empty.ensures ∙ w.if-not-is_empty.false)) ∙ grown),
+        omega (arith, c.loop-j.invariant.1),
+        omega (arith, c.loop-j-test.true),
+      )
     ]
