@@ -1,26 +1,25 @@
 -- Every condition of the shape of a diagram holds of what is made.
-use Rattle.std.proofs.Common.{◌≡◌, ◌≢◌, ◌∙◌, ⊎_elim, ℕ, suc, ◌+◌, ◌-◌, ◌<◌, ◌≤◌, ◌==◌, ◌%◌, Bool, true, false, cond, List, [], ◌∷◌, ◌++◌, length, map, get_or, slice_index, codes, IsTrue, ap, sym, subst, refl, arith, ◌||◌, lt-ltb}
+use Rattle.std.proofs.Common.{◌≡◌, ◌≢◌, ◌∙◌, ⊎_elim, ℕ, ◌+◌, ◌-◌, ◌<◌, ◌≤◌, ◌==◌, ◌%◌, Bool, true, false, cond, List, [], ◌∷◌, ◌++◌, map, get_or, slice_index, codes, ap, sym, subst, refl, arith, ◌||◌, lt-ltb}
 use Rattle.std.proofs.lemmas.Bool.{cond_both, and_from, cases_Bool, false_from_ne_true}
 use Rattle.std.proofs.lemmas.List.{append-nil}
-use Rattle.std.proofs.lemmas.List.Elements.{All-nil, All-cons, All-map, All-head, All-tail, All-weaker}
+use Rattle.std.proofs.lemmas.List.Elements.{All-nil, All-map, All-head, All-tail, All-weaker}
 use Rattle.std.proofs.lemmas.Slice.Eq.{bytes_eq-Decides}
-use Rattle.std.specs.List.{All, AllPairs, flat_map, filter, list_any, range_with_len}
+use Rattle.std.specs.List.{All, flat_map, filter, list_any, range_with_len}
 use Rattle.std.specs.Str.{bytes_eq}
 use Rattle.nego_base.specs.Members.{is_in, RisesFrom}
 use Rattle.nego_base.proofs.Members.{All-member, All-members, any_from, is_in-filter, is_in-range_zero, member_from, rises-filter, rises-range}
 use Rattle.nego_base.proofs.PairLaws.{AllPairs-nil, AllPairs-cons}
-use Rattle.nego_data.specs.CaseForm.{AssignsBelow, FitsSize, IsCovered}
-use Rattle.nego_data.specs.Data.{data_count}
+use Rattle.nego_data.specs.CaseForm.{AssignsBelow, FitsSize}
 use Rattle.nego_data.specs.Places.{value_of}
 use Rattle.nego_data.specs.declared.cases.Set.{Set}
-use Rattle.nego_reader.specs.Content.{AgentContent, NumberTerm, PlusTerm, CaseContent, NextContent, OutContent, AtomContent, Content}
-use Rattle.nego_shape.specs.Naming.{PlacedOut, place_of, places_of, agent_names, atom_names, sizes_in, all_outs, parties_at, set_in, case_in, cases_in}
+use Rattle.nego_reader.specs.Content.{AgentContent, NumberTerm, PlusTerm, NextContent, OutContent, Content}
+use Rattle.nego_shape.specs.Naming.{place_of, places_of, agent_names, atom_names, sizes_in, parties_at, set_in, case_in, cases_in}
 use Rattle.nego_shape.specs.Shaped.{AreDifferent, IsDeclared, AreNamedOnce, AreAllDeclared, IsParty, IsNamedParty, IsSent, SendsAll, HasNoStranger, EndsLast, NamesParties, IsAllCovered, case_names, assigned_names, sent_names, first_number, last_number}
 use Rattle.nego_shape.specs.Conditions.{HasShape, SomeAgent, FewAgents, FewAtoms, FewOutcomes, NamedOnce, AllDeclared, SomeParty, SomeOutcome, AllBegin, AllEnd, AllSent, NoStranger, LastEnds, PartiesAlone, NoZeroSize, NoLargeSize, NoLargeJoint, NoLargeValue, AllCovered}
-use Rattle.nego_make.specs.Generated.{agent_name, atom_name, everyone, by_turns, parties, is_next, movers, next_numbers, next_line, next_lines, outcome, assign, outcomes, agent, atom, generated}
+use Rattle.nego_make.specs.Generated.{agent_name, atom_name, everyone, by_turns, parties, is_next, movers, next_numbers, next_line, next_lines, outcome, outcomes, agent, generated}
 use Rattle.nego_make.proofs.Names.{AreBelow, names_differ, parties_have, parties_rise, parties_below, range_below, agents_differ, agent_place, agent_declared, places, atom_count, atoms_differ, atom_place, atom_declared, parties_are}
 use Rattle.nego_make.proofs.Moves.{next_party, mover_party, movers_below, next_behind, next_from_mover, everyone_last, some_next}
-use Rattle.nego_make.proofs.OutcomeKinds.{one, two, both_ways, both_endings, each_atom, each_placed, lists_have, nexts_have, plain, cases_have, outcomes_few}
+use Rattle.nego_make.proofs.OutcomeKinds.{one, two, both_ways, both_endings, each_atom, each_placed, lists_have, nexts_have, cases_have, outcomes_few}
 
 abbrev Other : List ℕ → List ℕ → Type 0
 Other a b = a ≢ b

@@ -1,10 +1,9 @@
 -- Every edge of what is made goes forward, and no agent has two next atoms.
-use Rattle.std.proofs.Common.{◌≡◌, ◌≢◌, ◌∙◌, ℕ, zero, suc, ◌+◌, ◌<◌, ◌≤◌, true, List, [], ◌∷◌, map, slice_get, slice_index_or, Option, Some, None, IsTrue, ap, sym, subst, refl, arith}
+use Rattle.std.proofs.Common.{◌≡◌, ◌∙◌, ℕ, zero, suc, ◌+◌, ◌<◌, ◌≤◌, true, List, [], ◌∷◌, map, slice_get, slice_index_or, Some, IsTrue, ap, sym, subst, refl, arith}
 use Rattle.std.proofs.lemmas.Bool.{false≢true}
-use Rattle.std.proofs.lemmas.Option.{same_Some, none-some, slice_get-map}
+use Rattle.std.proofs.lemmas.Option.{same_Some, none-some}
 use Rattle.std.proofs.lemmas.List.Elements.{All-nil, All-head, All-tail}
 use Rattle.std.specs.List.{All, AllPairs, range_with_len}
-use Rattle.std.specs.Option.{option_map}
 use Rattle.nego_base.specs.Members.{is_in, RisesFrom}
 use Rattle.nego_base.proofs.Members.{All-members, member_from, rises-range}
 use Rattle.nego_base.proofs.PairLaws.{AllPairs-nil, AllPairs-cons}
@@ -15,7 +14,7 @@ use Rattle.nego_model.proofs.diagrams.Negotiations.{outcome_at, nexts_of-at}
 use Rattle.nego_reader.specs.Content.{NextContent, Content}
 use Rattle.nego_shape.specs.Naming.{PlacedOut, place_of, places_of, agent_names, atom_names, all_outs, next_atoms, outcome_in, diagram_in}
 use Rattle.nego_shape.proofs.Places.{next_atoms-line}
-use Rattle.nego_make.specs.Generated.{agent_name, is_next, movers, next_line, generated}
+use Rattle.nego_make.specs.Generated.{is_next, movers, next_line, generated}
 use Rattle.nego_make.proofs.Names.{places, atom_place}
 use Rattle.nego_make.proofs.Moves.{mover_party, movers_below, one_next}
 use Rattle.nego_make.proofs.OutcomeKinds.{each_placed, nexts_have}

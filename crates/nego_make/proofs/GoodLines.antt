@@ -1,5 +1,5 @@
 -- Values whose content says names and small numbers in short lines are printed on such lines.
-use Rattle.std.proofs.Common.{◌≡◌, ◌∙◌, ℕ, suc, ◌+◌, ◌*◌, ◌^◌, ◌<◌, ◌≤◌, ◌==◌, List, [], ◌∷◌, ◌++◌, length, map, codes, decimal, IsTrue, ap, sym, refl, arith}
+use Rattle.std.proofs.Common.{◌≡◌, ◌∙◌, ℕ, ◌+◌, ◌*◌, ◌<◌, ◌≤◌, ◌==◌, List, [], ◌∷◌, ◌++◌, length, map, codes, decimal, IsTrue, ap, arith}
 use Rattle.std.proofs.lemmas.Bool.{cond_both}
 use Rattle.std.proofs.lemmas.Fmt.{length-decimal-le}
 use Rattle.std.proofs.lemmas.List.{length-map, length-append}
@@ -22,12 +22,12 @@ use Rattle.nego_reader.specs.declared.parsed.PTest.{PTest}
 use Rattle.nego_reader.specs.declared.parsed.PSet.{PSet}
 use Rattle.nego_reader.specs.declared.parsed.PTerm.{PTerm}
 use Rattle.nego_reader.specs.declared.parsed.PTerm.TheVariants as terms
-use Rattle.nego_reader.specs.Content.{AgentContent, AtomContent, OutContent, NextContent, CaseContent, SetContent, TermContent, AnyTerm, NumberTerm, PlusTerm, MinusTerm, Content, agent_content, atom_content, out_content, next_content, case_content, test_content, set_content, term_content, content_of, texts}
+use Rattle.nego_reader.specs.Content.{AtomContent, OutContent, NextContent, CaseContent, SetContent, TermContent, AnyTerm, NumberTerm, PlusTerm, MinusTerm, Content, agent_content, atom_content, out_content, next_content, case_content, test_content, set_content, term_content, content_of, texts}
 use Rattle.nego_reader.specs.Rows.{Row, HeaderRow, AgentRow, AtomRow, OutRow, CaseRow, NextRow, FirstRow, LastRow, EndRow, out_rows, atom_rows, rows_of}
-use Rattle.nego_reader.specs.Printing.{row_words, test_text, set_text, term_text, printed_diagram}
+use Rattle.nego_reader.specs.Printing.{row_words, test_text, set_text, term_text}
 use Rattle.nego_reader.specs.Printable.{IsTest, IsTerm, IsSet, IsRow, IsPrintableDiagram, FitsPart}
 use Rattle.nego_reader.specs.PrintedLines.{line_text, row_texts}
-use Rattle.nego_reader.proofs.PutLines.{words_behind, diagram_printed}
+use Rattle.nego_reader.proofs.PutLines.{diagram_printed}
 use Rattle.nego_make.proofs.OutcomeKinds.{one}
 
 -- the row may stand in a printed text, and its line has 20 bytes at most

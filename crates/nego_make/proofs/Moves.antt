@@ -1,9 +1,9 @@
 -- Where the parties of atoms go: to one atom each, which is behind.
-use Rattle.std.proofs.Common.{◌≡◌, ◌∙◌, ◌⊎◌, ⊎_elim, ℕ, zero, suc, ◌+◌, ◌-◌, ◌<◌, ◌≤◌, ◌==◌, ◌%◌, Bool, true, false, not, ◌&&◌, cond, List, [], ◌∷◌, ◌++◌, length, map, ap, sym, subst, refl, arith, inl, inr, ltb-true, lt-ltb, le-ltb, ltb-false, eq-eqb, eqb-true}
-use Rattle.std.proofs.lemmas.Bool.{and_parts, and_from, cases_lt, cases_Bool, true≢false, false≢true, cond-true, false_from_ne_true}
-use Rattle.std.specs.List.{All, list_any, filter, range_with_len}
+use Rattle.std.proofs.Common.{◌≡◌, ◌∙◌, ⊎_elim, ℕ, zero, suc, ◌+◌, ◌-◌, ◌<◌, ◌≤◌, ◌==◌, ◌%◌, true, false, not, List, [], ◌∷◌, length, ap, sym, arith, ltb-true, lt-ltb, le-ltb, ltb-false, eq-eqb, eqb-true}
+use Rattle.std.proofs.lemmas.Bool.{and_parts, and_from, cases_lt, cases_Bool, false≢true, cond-true, false_from_ne_true}
+use Rattle.std.specs.List.{All, list_any, range_with_len}
 use Rattle.nego_base.specs.Members.{is_in}
-use Rattle.nego_base.proofs.Members.{is_in-filter, is_in-range, is_in-range_zero, any_from, any_at, All-member, All-members, is_in_none}
+use Rattle.nego_base.proofs.Members.{is_in-filter, is_in-range, is_in-range_zero, any_from, All-member, All-members}
 use Rattle.nego_base.proofs.BoolLaws.{not_so}
 use Rattle.nego_make.specs.Generated.{everyone, by_turns, parties, is_next, movers, next_numbers}
 use Rattle.nego_make.proofs.Names.{parties_below}

@@ -1,16 +1,16 @@
 -- The names that are made are names by their bytes.
-use Rattle.std.proofs.Common.{◌≡◌, ℕ, ◌^◌, ◌<◌, ◌≤◌, ◌==◌, Bool, true, false, ◌&&◌, ◌||◌, nat_le, List, [], ◌∷◌, length, map, slice_index, codes, decimal, IsTrue, ap, sym, refl, arith, le-leb}
-use Rattle.std.proofs.lemmas.Bool.{and_parts, and_from, or_left, or_right}
-use Rattle.std.proofs.lemmas.Fmt.{decimal_nonempty, length-decimal-le}
+use Rattle.std.proofs.Common.{◌≡◌, ℕ, ◌^◌, ◌<◌, ◌≤◌, ◌==◌, true, ◌||◌, [], ◌∷◌, length, slice_index, codes, decimal, IsTrue, refl, arith, le-leb}
+use Rattle.std.proofs.lemmas.Bool.{and_from, or_left, or_right}
+use Rattle.std.proofs.lemmas.Fmt.{length-decimal-le}
 use Rattle.std.proofs.lemmas.List.Elements.{All-map, All-weaker}
 use Rattle.std.specs.List.{All, list_all}
-use Rattle.nego_base.specs.Name.{is_letter, is_name_byte, are_name_bytes, is_name}
+use Rattle.nego_base.specs.Name.{is_letter, is_name_byte, is_name}
 use Rattle.nego_base.specs.Number.{is_digit}
 use Rattle.nego_base.proofs.Members.{all_at, all_from}
 use Rattle.nego_base.proofs.NameLaws.{decimal_digits}
-use Rattle.nego_reader.specs.Content.{AgentContent, AtomContent, OutContent}
+use Rattle.nego_reader.specs.Content.{AgentContent, OutContent}
 use Rattle.nego_shape.specs.Shaped.{HasNameWords}
-use Rattle.nego_make.specs.Generated.{agent_name, atom_name, everyone, agent, parties, next_lines, outcome, atom, generated}
+use Rattle.nego_make.specs.Generated.{agent_name, atom_name, everyone, agent, parties, next_lines, outcome, generated}
 use Rattle.nego_make.proofs.Names.{range_below}
 use Rattle.nego_make.proofs.OutcomeKinds.{one, both_ways, both_endings, each_atom, lists_have}
 

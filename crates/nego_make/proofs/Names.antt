@@ -1,14 +1,14 @@
 -- The names that are made: they differ, and each stands at the place that is its number.
-use Rattle.std.proofs.Common.{◌≡◌, ◌≢◌, ◌∙◌, ℕ, zero, suc, ◌+◌, ◌<◌, ◌≤◌, ◌==◌, ◌%◌, true, cond, List, [], ◌∷◌, length, map, drop, decimal, slice_get, Some, ap, sym, subst, refl, arith, ltb-true}
+use Rattle.std.proofs.Common.{◌≡◌, ◌≢◌, ◌∙◌, ℕ, zero, suc, ◌+◌, ◌<◌, ◌≤◌, ◌==◌, ◌%◌, true, cond, List, [], ◌∷◌, length, map, drop, decimal, slice_get, Some, ap, sym, subst, refl, arith}
 use Rattle.std.proofs.lemmas.Bool.{cond_both}
 use Rattle.std.proofs.lemmas.Fmt.{decimal_injective}
 use Rattle.std.proofs.lemmas.Option.{slice_get-map}
-use Rattle.std.proofs.lemmas.List.Elements.{All-nil, All-cons, All-map, All-head, All-tail, All-weaker}
+use Rattle.std.proofs.lemmas.List.Elements.{All-nil, All-cons, All-map, All-head, All-tail}
 use Rattle.std.proofs.lemmas.List.FromFn.{length-map-range_with_len}
-use Rattle.std.specs.List.{All, AllPairs, filter, range_with_len}
+use Rattle.std.specs.List.{All, filter, range_with_len}
 use Rattle.std.specs.Option.{option_map, option_map_or}
 use Rattle.nego_base.specs.Members.{is_in, RisesFrom, IsRising}
-use Rattle.nego_base.proofs.Members.{All-member, All-members, member_from, is_in-range, is_in-range_zero, rises-range, rises_more}
+use Rattle.nego_base.proofs.Members.{All-member, All-members, member_from, rises-range, rises_more}
 use Rattle.nego_base.proofs.PairLaws.{AllPairs-nil, AllPairs-cons}
 use Rattle.nego_reader.specs.Content.{AtomContent}
 use Rattle.nego_shape.specs.Naming.{place_of, places_of, agent_names, atom_names, parties_in, parties_at}

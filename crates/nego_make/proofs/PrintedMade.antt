@@ -1,6 +1,5 @@
 -- What is made is printed in short lines of names and small numbers.
-use Rattle.std.proofs.Common.{◌≡◌, ◌∙◌, ℕ, suc, ◌+◌, ◌-◌, ◌*◌, ◌<◌, ◌≤◌, ◌==◌, true, not, List, [], ◌∷◌, ◌++◌, length, map, slice_index, codes, refl, ap, sym, arith, eq-eqb}
-use Rattle.std.proofs.lemmas.Bool.{true≢false, false≢true}
+use Rattle.std.proofs.Common.{◌≡◌, ℕ, suc, ◌+◌, ◌-◌, ◌*◌, ◌<◌, ◌≤◌, ◌==◌, not, List, [], ◌∷◌, length, map, slice_index, codes, refl, ap, arith}
 use Rattle.std.proofs.lemmas.Fmt.{decimal_digit}
 use Rattle.std.proofs.lemmas.List.{length-map, length-append}
 use Rattle.std.proofs.lemmas.List.Elements.{All-nil, All-cons, All-map, All-head, All-tail, All-weaker}
@@ -9,7 +8,7 @@ use Rattle.std.specs.List.{All, range_with_len}
 use Rattle.nego_base.specs.Printed.{printed_line}
 use Rattle.nego_base.proofs.Members.{All-members}
 use Rattle.nego_base.proofs.BoolLaws.{length-filter_le}
-use Rattle.nego_reader.specs.Content.{AgentContent, NumberTerm, PlusTerm, SetContent, NextContent, OutContent}
+use Rattle.nego_reader.specs.Content.{AgentContent, NumberTerm, PlusTerm, SetContent, NextContent}
 use Rattle.nego_reader.specs.PrintedLines.{behind_blanks}
 use Rattle.nego_reader.proofs.PutLines.{words_behind}
 use Rattle.nego_make.specs.Generated.{agent_name, atom_name, everyone, agent, parties, is_next, movers, next_numbers, next_line, next_lines, outcome, assign, outcomes, atom, generated}
