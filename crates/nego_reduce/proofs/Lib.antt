@@ -1,3 +1,6 @@
+pub mod bound
+pub mod complete
+pub mod FewTests
 pub mod Growing
 pub mod Guards
 pub mod LeastEntry
@@ -9,5 +12,3 @@ pub mod Rounds
 pub mod Searching
 pub mod Twins
 pub mod UsesLead
-pub mod bound
-pub mod complete

@@ -1,5 +1,5 @@
 -- How many uses the order makes at most.
-use Rattle.std.specs.Prelude.{ℕ, ◌≤◌, ◌+◌, ◌-◌, ◌*◌, Bool, true, false, if◌then◌else◌, List, length, filter}
+use Rattle.std.specs.Prelude.{ℕ, ◌≤◌, ◌+◌, ◌-◌, ◌*◌, min, Bool, true, false, if◌then◌else◌, List, length, filter}
 use Rattle.nego_model.specs.Diagram.{PlainDiagram}
 use Rattle.nego_expr.specs.Use.{PlainUse, Merge, Iterate, Shortcut, Close}
 
@@ -32,7 +32,9 @@ pub record AreFew (diagram : PlainDiagram) (uses : List PlainUse) : Type 0 where
 abbrev pub nodes_made_by : ℕ → PlainUse → ℕ
 nodes_made_by finals next = if is_closing next then finals else 1
 
--- how many guards are tested at most for an acyclic diagram
+-- how many guards are tested at most for an acyclic diagram: in a round at most 17 for each outcome and three more, and no
+-- more than the pairs of outcomes and 17 for each outcome
 abbrev pub most_tests : PlainDiagram → ℕ
 most_tests diagram =
-    (length diagram.outcomes * length diagram.atoms + length diagram.outcomes + 2) * (17 * length diagram.outcomes + 3)
+    let l = length diagram.outcomes in
+    (l * length diagram.atoms + l + 2) * min (17 * l + 3) (l * l + l + 16 * l)

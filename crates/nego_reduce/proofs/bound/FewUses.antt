@@ -18,7 +18,7 @@ use Rattle.nego_reduce.proofs.bound.Measures.{Lowers, room, while_open}
 use Rattle.nego_reduce.proofs.bound.NextUsesLower.{IsRoomy, next_lowers, next_roomy, fresh_rooms, fresh_alive, room_most}
 
 -- each use is of one kind
-kinds : (uses : List PlainUse) → length uses ≡ length (filter is_shortcut uses) + length (filter takes_away uses) + length (filter is_closing uses)
+pub kinds : (uses : List PlainUse) → length uses ≡ length (filter is_shortcut uses) + length (filter takes_away uses) + length (filter is_closing uses)
 kinds [] = omega arith
 kinds (Merge o1 o2 ∷ uses) = let rest = kinds uses in omega (arith, rest)
 kinds (Iterate o ∷ uses) = let rest = kinds uses in omega (arith, rest)
@@ -41,6 +41,13 @@ some_alive work ok =
 pub fresh_roomy : (diagram : PlainDiagram) (work : PlainWork) → IsFresh work diagram → IsRoomy (length diagram.atoms) work
 fresh_roomy diagram work fresh =
     subst (IsRoomy (length diagram.atoms)) (sym fresh.fresh) ((fresh_stands diagram (has_form diagram fresh.diagram_read) fresh.determined).is_work, fresh_rooms diagram)
+
+-- a diagram has an outcome
+pub some_outcome : (diagram : PlainDiagram) (work : PlainWork) → IsFresh work diagram → 1 ≤ length diagram.outcomes
+some_outcome diagram work fresh =
+    let some = some_alive work (fresh_roomy diagram work fresh).0 in
+    let same = ap (λ w. length w.outcomes) fresh.fresh ∙ fresh_alive diagram in
+    omega (arith, some, same)
 
 -- the amount that may stand while the work may close
 pub while_open_most : (amount : ℕ) (work : PlainWork) → while_open amount work ≤ amount
