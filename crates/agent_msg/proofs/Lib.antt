@@ -1,3 +1,4 @@
 pub mod PartyLaws
 pub mod ReadingLaws
 pub mod ShareLaws
+pub mod SpellingLaws
