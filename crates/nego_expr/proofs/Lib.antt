@@ -1,6 +1,7 @@
 pub mod AddedNodes
 pub mod Alive
 pub mod BaseNodes
+pub mod Counting
 pub mod EditCalls
 pub mod EditedWorks
 pub mod Finished

@@ -3,6 +3,7 @@ use Rattle.std.proofs.Common.{◌≡◌, ◌≢◌, ◌↔◌, ◌⊎◌, inl, i
 use Rattle.std.specs.List.{All, Contains, filter}
 use Rattle.std.proofs.lemmas.Bool.{eqb-false, not-true, not_from_false}
 use Rattle.std.proofs.lemmas.List.{map-append}
+use Rattle.std.proofs.lemmas.Simd.{map-map}
 use Rattle.std.proofs.lemmas.List.Elements.{All-contains, All-map, All-weaker, Contains-append_left, Contains-push, Contains-push_cases}
 use Rattle.std.proofs.lemmas.Option.{none-some}
 use Rattle.nego_base.specs.Members.{IsRising}
@@ -132,3 +133,8 @@ slots-with_nodes_at n i (x ∷ xs) = go (x.atom == n) (slots-with_nodes_at n (i 
         map slot_of (cond b (record x { node = i } ∷ with_nodes_at n (i + 1) xs) (x ∷ with_nodes_at n i xs)) ≡ slot_of x ∷ map slot_of xs
     go true h k = ap (◌∷◌ (slot_of x)) h
     go false h k = ap (◌∷◌ (slot_of x)) k
+
+-- and so are the atoms
+pub atoms-with_nodes_at : (n i : ℕ) (outcomes : List WorkOutcome) → map (λ x. x.atom) (with_nodes_at n i outcomes) ≡ map (λ x. x.atom) outcomes
+atoms-with_nodes_at n i outcomes =
+    sym (map-map (λ s. s.atom) slot_of (with_nodes_at n i outcomes)) ∙ (ap (map (λ s. s.atom)) (slots-with_nodes_at n i outcomes) ∙ map-map (λ s. s.atom) slot_of outcomes)

@@ -3,21 +3,23 @@ use Rattle.std.proofs.Common.{◌≡◌, ◌≢◌, ⊎_elim, ℕ, ◌+◌, ◌<
 use Rattle.std.specs.List.{All, filter}
 use Rattle.std.proofs.lemmas.Bool.{cond-true, cond-false, cases_eq}
 use Rattle.std.proofs.lemmas.List.Elements.{All-nil, All-cons, All-head, All-tail, All-filter, All-append, All-weaker}
-use Rattle.std.proofs.lemmas.List.{map-append, length-append}
+use Rattle.std.proofs.lemmas.List.{map-append, length-append, length-map}
+use Rattle.std.specs.Prelude.{slice_index}
 use Rattle.std.proofs.lemmas.Option.{slice_get_within}
 use Rattle.nego_model.specs.Expression.{PlainNode}
 use Rattle.nego_base.specs.Members.{is_in, without_member, RisesFrom, IsRising}
-use Rattle.nego_base.proofs.Members.{is_in_none, is_in-cases, rises-append}
+use Rattle.nego_base.proofs.Members.{is_in_none, is_in-cases, rises-append, All-member}
 use Rattle.nego_expr.specs.Work.{WorkOutcome, parties_among}
 use Rattle.nego_expr.specs.Edits.{with_outcome, nodes_then, with_nodes_at}
 use Rattle.nego_expr.specs.Room.{RoomyNodes, RoomyWork}
 use Rattle.nego_expr.specs.Sorted.{PlainSlot, AreSlotsOf}
-use Rattle.nego_expr.specs.WorkView.{atom_among, plain_outcome, roomy_work, AreAlive, IsUsable}
+use Rattle.nego_expr.specs.WorkView.{atom_among, atom_number, plain_outcome, roomy_work, AreAlive, AreCountsOf, IsUsable}
 use Rattle.nego_base.specs.Room.{WithRoom}
 use Rattle.nego_expr.specs.declared.outcome.Outcome.{Outcome}
 use Rattle.nego_expr.specs.declared.work.Work.TheInside.{Inside}
 use Rattle.nego_expr.proofs.WorkEdits.{numbers_of, with_node, All-at_place, rises-passing, numbers-with_outcome, All-with_outcome}
 use Rattle.nego_expr.proofs.AddedNodes.{length-nodes_then}
+use Rattle.nego_expr.proofs.Counting.{equals, length-equals}
 use Rattle.nego_expr.proofs.NodesAt.{of_atom, numbers-with_nodes_at, All-with_nodes_at}
 
 module _ (parties : List (List ℕ)) where
@@ -136,4 +138,23 @@ roomier w nodes outcomes slots n o s ok = record {
   alive = rw (n, o) ok.alive;
   few_numbers = ok.few_numbers;
   sorted = subst (AreSlotsOf (map plain_outcome outcomes.items)) (sym s) (subst (λ (xs : List Outcome). AreSlotsOf (map plain_outcome xs) w.slots.items) (sym o) ok.sorted);
+  counted = subst (λ (xs : List Outcome). AreCountsOf (map atom_number xs) w.counts) (sym o) ok.counted;
 }
+
+-- an atom that is left has a number that a set may have
+pub left_few : (w : Inside) (work : RoomyWork) (n : ℕ) → IsUsable w → roomy_work w ≡ work → IsTrue (is_in n (map (λ atom. atom.number) work.plain.atoms)) → n < 64
+left_few w work n ok e h =
+    let below : n < length w.parties = All-member (λ m. m < length w.parties) n w.left ok.left_below (left_there w work n e h) in
+    let few : length w.parties ≤ 64 = ok.few_atoms in
+    omega (arith, below, few)
+
+-- an atom has no more outcomes than there are numbers
+pub few_counted : (w : Inside) (n : ℕ) → IsUsable w → slice_index w.counts n ≤ w.numbers
+few_counted w n ok =
+    let items = w.outcomes.items in
+    let here : slice_index w.counts n ≡ length (equals n (map atom_number items)) = ok.counted n in
+    let some : length (equals n (map atom_number items)) ≤ length (map atom_number items) = length-equals n (map atom_number items) in
+    let atoms : length (map atom_number items) ≡ length items = length-map items atom_number in
+    let seen : length (map plain_outcome items) ≡ length items = length-map items plain_outcome in
+    let all : length (map plain_outcome items) ≤ w.numbers = few_alive w.agents w.numbers (length w.nodes.nodes) (map plain_outcome items) ok.alive in
+    omega (arith, here, some, atoms, seen, all)

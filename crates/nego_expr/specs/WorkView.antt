@@ -1,5 +1,5 @@
 -- How the program's outcomes and works are seen, and what holds of a work's fields at every moment.
-use Rattle.std.specs.Prelude.{◌≡◌, ℕ, ◌-◌, ◌<◌, ◌≤◌, List, [], length, map, min, slice_index_or, All}
+use Rattle.std.specs.Prelude.{◌≡◌, ℕ, ◌-◌, ◌<◌, ◌≤◌, ◌==◌, List, [], length, map, filter, min, slice_index, slice_index_or, All}
 use Rattle.nego_base.specs.Members.{IsRising}
 use Rattle.nego_expr.specs.declared.outcome.Outcome.{Outcome}
 use Rattle.nego_expr.specs.declared.work.Work.TheInside.{Inside}
@@ -10,6 +10,10 @@ use Rattle.nego_expr.specs.Sorted.{AreSlotsOf}
 -- an alive outcome, without the wrapping of its numbers
 abbrev pub plain_outcome : Outcome → WorkOutcome
 plain_outcome x = record { number = x.number.0; atom = x.atom.0; targets = x.targets; node = x.node.0; passed = x.passed }
+
+-- the number of its atom
+abbrev pub atom_number : Outcome → ℕ
+atom_number x = x.atom.0
 
 -- the atom of a number, of the parties of all atoms
 abbrev pub atom_among : List (List ℕ) → ℕ → WorkAtom
@@ -45,8 +49,12 @@ pub record AreAlive (agents numbers nodes : ℕ) (outcomes : List WorkOutcome) :
   pub fit : All (λ outcome. length outcome.targets ≡ agents) outcomes
   pub there : All (λ outcome. outcome.node < nodes) outcomes
 
+-- At the place of each number stands how often the number is among these.
+abbrev pub AreCountsOf : List ℕ → List ℕ → Type 0
+AreCountsOf numbers counts = (m : ℕ) → slice_index counts m ≡ length (filter (λ n. n == m) numbers)
+
 -- What holds also between two edits: agents and atoms are few, each atom that is left has an entry of parties, the
--- outcomes are alive ones, the slots are theirs, and numbers have 32 bits.
+-- outcomes are alive ones, the slots are theirs, each atom has its count of them, and numbers have 32 bits.
 pub record IsUsable (w : Inside) : Type 0 where
   pub few_agents : w.agents ≤ 16
   pub few_atoms : length w.parties ≤ 64
@@ -54,3 +62,4 @@ pub record IsUsable (w : Inside) : Type 0 where
   pub alive : AreAlive w.agents w.numbers (length w.nodes.nodes) (map plain_outcome w.outcomes.items)
   pub few_numbers : w.numbers ≤ most_numbers
   pub sorted : AreSlotsOf (map plain_outcome w.outcomes.items) w.slots.items
+  pub counted : AreCountsOf (map atom_number w.outcomes.items) w.counts

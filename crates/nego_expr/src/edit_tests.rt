@@ -1,5 +1,6 @@
 //! A work under edits, and room for them.
 
+use crate::counts::Counts;
 use crate::slots::Slots;
 use crate::{Node, Nodes, RuleFault, Targets, Work};
 use nego_base::{AgentId, AgentSet, AtomId, AtomSet, Memory, OutcomeId, Reserved, Seq};
@@ -123,6 +124,7 @@ fn two_atoms(alloc: Global) -> Result<Work, Memory> {
         numbers: 0,
         outcomes: Reserved::new(alloc, 0)?,
         slots: Slots::new(alloc, 0)?,
+        counts: Counts::none(),
         names: Seq::new(alloc),
         bases: Seq::new(alloc),
     })

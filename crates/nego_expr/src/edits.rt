@@ -54,6 +54,7 @@ impl Work {
             node,
             passed,
         };
+        self.counts.add(n);
         self.slots.insert(&outcome);
         self.outcomes.push(outcome);
         number
@@ -92,6 +93,7 @@ impl Work {
         let i = place_of(self.outcomes.as_slice(), o).unwrap();
         let outcome = self.outcomes.remove(i);
         self.slots.remove(&outcome);
+        self.counts.remove(outcome.atom);
     }
 
     /// Takes an atom and its outcomes away.
@@ -103,6 +105,7 @@ impl Work {
         self.left = self.left.without(n);
         self.outcomes.retain(|x| x.atom != n);
         self.slots.remove_atom(n);
+        self.counts.clear(n);
     }
 
     /// Makes an atom that is left the first.

@@ -10,8 +10,9 @@ ghost use Rattle.nego_expr.specs.Sorted.{AreSlotsOf};
 ghost use Rattle.nego_expr.specs.StandsFor.{HasTheRuns, IsFresh, StandsFor};
 ghost use Rattle.nego_expr.specs.Use.{most_nodes};
 ghost use Rattle.nego_expr.specs.WorkFault.{WorkFaultHolds};
-ghost use Rattle.nego_expr.specs.WorkView.{plain_outcome};
+ghost use Rattle.nego_expr.specs.WorkView.{plain_outcome, AreCountsOf};
 
+use crate::counts::Counts;
 use crate::slots::Slots;
 use crate::{Node, Nodes, Outcome, Targets, Work, WorkFault};
 use nego_base::{
@@ -53,6 +54,7 @@ fn build(alloc: Global, d: &Diagram) -> Result<Work, Memory>
         nodes: base_nodes(alloc, d.outcomes())?,
         numbers: d.outcomes(),
         slots: slots_of(alloc, alive.as_slice())?,
+        counts: counts_of(d),
         outcomes: alive,
         names: final_names(alloc, d)?,
         bases: parties_of_outcomes(alloc, d)?,
@@ -103,6 +105,17 @@ fn slots_of(alloc: Global, outcomes: &[Outcome]) -> Result<Slots, Memory>
         slots.insert(outcome);
     }
     Ok(slots)
+}
+
+/// How many of them each atom has.
+fn counts_of(d: &Diagram) -> Counts
+    ensures { AreCountsOf (map (λ x. x.atom) (outcomes_of d.now 0 d.now.outcomes)) result }
+{
+    let mut counts = Counts::none();
+    for o in 0..d.outcomes() {
+        counts.add(d.atom_of(OutcomeId(o)));
+    }
+    counts
 }
 
 /// The outcome as it is alive at first.

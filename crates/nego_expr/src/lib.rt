@@ -1,6 +1,7 @@
 //! A diagram under rewriting: its expressions, its alive outcomes, the uses of the rules and the summary that is left.
 #![tactic(auto)]
 
+mod counts;
 #[cfg(test)]
 mod edit_tests;
 mod edits;

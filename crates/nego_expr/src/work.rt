@@ -1,11 +1,11 @@
 //! A diagram under rewriting, and what may be asked of it.
-ghost use Rattle.std.specs.Prelude.{◌≡◌, ◌==◌, ◌<◌, ◌≤◌, Some, None, IfSome, IfNone, slice_get, IsTrue, IsSome, length, map, is_some, option_map};
-ghost use Rattle.std.specs.List.{filter};
+ghost use Rattle.std.specs.Prelude.{◌≡◌, ◌<◌, ◌≤◌, Some, None, IfSome, IfNone, slice_get, IsTrue, IsSome, length, map, is_some, option_map};
 ghost use Rattle.nego_base.specs.Members.{is_in, IsRising};
 ghost use Rattle.nego_expr.specs.Sorted.{plain_slot, IsSorted};
 ghost use Rattle.nego_expr.specs.Work.{outcome_at, outcome_among, outcomes_at, sent_to, work_parties};
 ghost use Rattle.nego_expr.specs.WorkView.{plain_outcome};
 
+use crate::counts::Counts;
 use crate::slots::Slots;
 use crate::{Nodes, Outcome, Slot, Targets};
 use nego_base::{AgentId, AgentSet, AtomId, AtomSet, NodeId, OutcomeId, Reserved, Seq, Text};
@@ -29,6 +29,8 @@ pub struct Work {
     pub(crate) outcomes: Reserved<Outcome>,
     /// Their slots, rising.
     pub(crate) slots: Slots,
+    /// How many of them each atom has.
+    pub(crate) counts: Counts,
     /// The names of the last atom's outcomes, in their order.
     pub(crate) names: Seq<Text>,
     /// For each outcome that was read the parties of its atom: what contracts speak of, and nothing reads.
@@ -55,13 +57,6 @@ pub(crate) fn place_of(outcomes: &[Outcome], o: OutcomeId) -> Option<usize>
     ensures none { IfNone result (outcome_among (map plain_outcome outcomes.now) o.0 ≡ None) }
 {
     outcomes.binary_search_by_key(&o.0, |x| x.number.0).ok()
-}
-
-/// How many outcomes are of an atom.
-fn count_at(outcomes: &[Outcome], n: AtomId) -> usize
-    ensures { result ≡ length (filter (λ x. x.atom.0 == n.0) outcomes.now) }
-{
-    outcomes.iter().filter(|x| x.atom == n).count()
 }
 
 impl Work {
@@ -142,7 +137,7 @@ impl Work {
     pub fn count_of(&self, n: AtomId) -> u32
         ensures { result ≡ length (outcomes_at self.now.plain n.0) }
     {
-        count_at(self.outcomes.as_slice(), n) as u32
+        self.counts.count(n)
     }
 
     /// Whether there is an alive outcome of this number.

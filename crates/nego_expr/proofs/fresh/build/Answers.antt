@@ -1,9 +1,10 @@
-use Rattle.std.proofs.Common.{◌≡◌, List, map, sym, subst}
+use Rattle.std.proofs.Common.{◌≡◌, ◌∙◌, List, map, sym, subst, ap}
+use Rattle.std.proofs.lemmas.Simd.{map-map}
 use Rattle.nego_expr.specs.declared.outcome.Outcome.{Outcome}
 use Rattle.nego_expr.specs.declared.work.Work.TheInside.{Inside}
 use Rattle.nego_expr.specs.Fresh.{fresh_work}
 use Rattle.nego_expr.specs.Sorted.{AreSlotsOf}
-use Rattle.nego_expr.specs.WorkView.{plain_outcome, plain_work}
+use Rattle.nego_expr.specs.WorkView.{plain_outcome, plain_work, AreCountsOf}
 use Rattle.nego_expr.proofs.FreshBuilt.{IsBuilt, built_work, built_usable}
 use Rattle.nego_expr.proofs.fresh.build.Goals as goal
 use Rattle.nego_expr.proofs.fresh.build.Goals.{In_ok-parties_of_outcomes}
@@ -20,6 +21,7 @@ fields c = record {
   numbers = c.outcomes-2.result;
   outcomes = c.in_ok-alive.alive;
   slots = c.in_ok-slots_of.field-0;
+  counts = c.counts_of.result;
   names = c.in_ok-final_names.field-0;
   bases = c.in_ok-parties_of_outcomes.field-0;
 }
@@ -38,6 +40,7 @@ built c = record {
   numbers = c.outcomes-2.ensures.value;
   outcomes = c.in_ok-alive.ensures;
   slots = subst (λ (xs : List Outcome). AreSlotsOf (map plain_outcome xs) c.in_ok-slots_of.field-0.items) c.as_slice.ensures c.in_ok-slots_of.ensures;
+  counts = subst (λ ns. AreCountsOf ns c.counts_of.result) (ap (map (λ x. x.atom)) (sym c.in_ok-alive.ensures) ∙ map-map (λ x. x.atom) plain_outcome c.in_ok-alive.alive.items) c.counts_of.ensures;
   names = c.in_ok-final_names.ensures;
   bases = c.in_ok-parties_of_outcomes.ensures;
 }

@@ -3,9 +3,10 @@ use Rattle.std.proofs.lemmas.List.{map-append}
 use Rattle.nego_expr.specs.Work.{WorkOutcome}
 use Rattle.nego_expr.specs.Room.{RoomyWork}
 use Rattle.nego_expr.specs.Sorted.{AreSlotsOf}
-use Rattle.nego_expr.specs.WorkView.{plain_outcome, AreAlive}
+use Rattle.nego_expr.specs.WorkView.{atom_number, plain_outcome, AreAlive, AreCountsOf}
 use Rattle.nego_expr.proofs.SlotsOf.{slots-add, unused_slot}
-use Rattle.nego_expr.proofs.UsableWorks.{alive-add}
+use Rattle.nego_expr.proofs.Counting.{counts-add}
+use Rattle.nego_expr.proofs.UsableWorks.{alive-add, few_counted, left_few}
 use Rattle.nego_expr.proofs.work.Work.add_outcome.Goals as goal
 
 pub invariant_of-self : goal.invariant_of-self
@@ -27,7 +28,18 @@ invariant_of-self c =
           (subst fit (sym c.self.view_is) c.requires.fit) (subst there (sym c.self.view_is) c.requires.there));
       few_numbers = omega (arith, more);
       sorted = subst (λ os. AreSlotsOf os c.insert.new.self.items) (sym seen) (slots-add ys new w.slots.items c.insert.new.self.items c.self.invariant.sorted c.insert.ensures.items);
+      counted = subst (λ ns. AreCountsOf ns c.add.new.self) (sym (ap (map atom_number) c.push.ensures.items ∙ map-append atom_number w.outcomes.items _))
+          (counts-add (map atom_number w.outcomes.items) w.counts c.add.new.self c.args.n.0 c.self.invariant.counted c.add.ensures);
     }
+
+pub add-requires-clause-atom : goal.add-requires-clause-atom
+add-requires-clause-atom c = left_few c.self.inside c.args.self.now c.args.n.0 c.self.invariant c.self.view_is c.requires.left
+
+pub add-requires-clause-few : goal.add-requires-clause-few
+add-requires-clause-few c =
+    let spare = λ (v : RoomyWork). 0 < v.spare_outcomes in
+    let more = subst spare (sym c.self.view_is) c.requires.spare in
+    omega (arith, more, few_counted c.self.inside c.args.n.0 c.self.invariant)
 
 pub returns-clause-spare : goal.returns-clause-spare
 returns-clause-spare c =

@@ -3,30 +3,28 @@ use Rattle.std.specs.List.{All, filter}
 use Rattle.std.proofs.lemmas.List.Elements.{All-filter}
 use Rattle.std.proofs.lemmas.Fn.{filter_same}
 use Rattle.std.proofs.lemmas.List.Filters.{length-filter_both}
-use Rattle.nego_base.proofs.Members.{All-member}
 use Rattle.nego_expr.specs.declared.outcome.Outcome.{Outcome}
 use Rattle.nego_expr.specs.Work.{WorkAtom, WorkOutcome}
 use Rattle.nego_expr.specs.Sorted.{AreSlotsOf}
-use Rattle.nego_expr.specs.WorkView.{plain_outcome, plain_work, atom_among, AreAlive}
+use Rattle.nego_expr.specs.WorkView.{atom_number, plain_outcome, plain_work, atom_among, AreAlive, AreCountsOf}
+use Rattle.nego_expr.proofs.Counting.{counts-clear}
 use Rattle.nego_expr.proofs.Places.{filter-seen}
 use Rattle.nego_expr.proofs.SlotsOf.{slots-without_atom}
-use Rattle.nego_expr.proofs.UsableWorks.{left_there, atoms-without, alive-filter}
+use Rattle.nego_expr.proofs.UsableWorks.{left_few, atoms-without, alive-filter}
 use Rattle.nego_expr.proofs.work.Work.drop_atom.Goals as goal
 
 pub without-self-inside-requires : goal.without-self-inside-requires
-without-self-inside-requires c =
-    let below : c.args.n.0 < length c.self.inside.parties =
-    All-member (λ n. n < length c.self.inside.parties) c.args.n.0 c.self.inside.left c.self.invariant.left_below
-    (left_there c.self.inside c.args.self.now c.args.n.0 c.self.view_is c.requires.left) in
-    let few : length c.self.inside.parties ≤ 64 = c.self.invariant.few_atoms in
-    omega (arith, below, few)
+without-self-inside-requires c = left_few c.self.inside c.args.self.now c.args.n.0 c.self.invariant c.self.view_is c.requires.left
+
+pub clear-requires : goal.clear-requires
+clear-requires c = left_few c.self.inside c.args.self.now c.args.n.0 c.self.invariant c.self.view_is c.requires.left
 
 -- the items that are kept
-kept : (c : goal.After-remove_atom) → c.retain.new.self.items ≡ filter (λ (x : Outcome). not (x.atom.0 == c.args.n.0)) c.self.inside.outcomes.items
+kept : (c : goal.After-clear) → c.retain.new.self.items ≡ filter (λ (x : Outcome). not (x.atom.0 == c.args.n.0)) c.self.inside.outcomes.items
 kept c = filter_same _ (λ (x : Outcome). not (x.atom.0 == c.args.n.0)) _ (λ x b f called. search rules) _ _ c.retain.ensures.items
 
 -- the outcomes after the edit
-after : (c : goal.After-remove_atom) → map plain_outcome c.retain.new.self.items ≡ filter (λ x. not (x.atom == c.args.n.0)) (map plain_outcome c.self.inside.outcomes.items)
+after : (c : goal.After-clear) → map plain_outcome c.retain.new.self.items ≡ filter (λ x. not (x.atom == c.args.n.0)) (map plain_outcome c.self.inside.outcomes.items)
 after c = ap (map plain_outcome) (kept c) ∙ filter-seen plain_outcome (λ x. not (x.atom == c.args.n.0)) c.self.inside.outcomes.items
 
 pub invariant_of-self : goal.invariant_of-self
@@ -42,6 +40,8 @@ invariant_of-self c =
       few_numbers = c.self.invariant.few_numbers;
       sorted = subst (λ os. AreSlotsOf os c.remove_atom.new.self.items) (sym (after c))
           (slots-without_atom c.args.n.0 (map plain_outcome w.outcomes.items) w.slots.items c.remove_atom.new.self.items c.self.invariant.sorted c.remove_atom.ensures.items);
+      counted = subst (λ ns. AreCountsOf ns c.clear.new.self) (sym (ap (map atom_number) (kept c) ∙ filter-seen atom_number (λ m. not (m == c.args.n.0)) w.outcomes.items))
+          (counts-clear (map atom_number w.outcomes.items) w.counts c.clear.new.self c.args.n.0 c.self.invariant.counted c.clear.ensures);
     }
 
 pub returns-clause-plain : goal.returns-clause-plain

@@ -3,8 +3,10 @@ use Rattle.nego_expr.specs.declared.outcome.Outcome.{Outcome}
 use Rattle.std.specs.List.{filter}
 use Rattle.nego_expr.specs.Work.{outcome_among}
 use Rattle.nego_expr.specs.Sorted.{AreSlotsOf}
-use Rattle.nego_expr.specs.WorkView.{plain_outcome, plain_work, AreAlive}
-use Rattle.nego_expr.proofs.Places.{remove-found}
+use Rattle.std.proofs.lemmas.Option.{slice_get-map}
+use Rattle.nego_expr.specs.WorkView.{atom_number, plain_outcome, plain_work, AreAlive, AreCountsOf}
+use Rattle.nego_expr.proofs.Counting.{counted-there, counts-remove}
+use Rattle.nego_expr.proofs.Places.{remove-found, remove-seen}
 use Rattle.nego_expr.proofs.SlotsOf.{slot-found, slots-without}
 use Rattle.nego_expr.proofs.UsableWorks.{alive-filter}
 use Rattle.nego_expr.proofs.work.Work.drop_outcome.Goals as goal
@@ -33,6 +35,16 @@ remove-requires c =
     let b = (goal.at.remove-requires c).After-remove-outcome in
     slot-found (map plain_outcome w.outcomes.items) c.self.invariant.alive.rising c.args.o.0 (plain_outcome b.remove-outcome.result) (found b) w.slots.items c.self.invariant.sorted
 
+-- the atom at its place
+atom_there : (c : After-remove-outcome) → slice_get (map atom_number c.self.inside.outcomes.items) c.unwrap-i.result ≡ Some (atom_number c.remove-outcome.result)
+atom_there c = slice_get-map atom_number c.self.inside.outcomes.items c.unwrap-i.result ∙ ap (option_map atom_number) c.remove-outcome.ensures.value
+
+pub remove-requires-2 : goal.remove-requires-2
+remove-requires-2 c =
+    let w = c.self.inside in
+    let b = (goal.at.remove-requires-2 c).After-remove-outcome in
+    counted-there (map atom_number w.outcomes.items) w.counts (atom_number b.remove-outcome.result) b.unwrap-i.result c.self.invariant.counted (atom_there b)
+
 pub invariant_of-self : goal.invariant_of-self
 invariant_of-self c =
     let w = c.self.inside in
@@ -46,6 +58,8 @@ invariant_of-self c =
       few_numbers = c.self.invariant.few_numbers;
       sorted = subst (λ os. AreSlotsOf os c.remove.new.self.items) (sym (after b))
           (slots-without (map plain_outcome w.outcomes.items) c.self.invariant.alive.rising c.args.o.0 (plain_outcome b.remove-outcome.result) (found b) w.slots.items c.self.invariant.sorted c.remove.new.self.items c.remove.ensures.items);
+      counted = subst (λ ns. AreCountsOf ns c.remove-2.new.self) (sym (ap (map atom_number) b.remove-outcome.ensures.items ∙ remove-seen atom_number w.outcomes.items b.unwrap-i.result))
+          (counts-remove (map atom_number w.outcomes.items) w.counts c.remove-2.new.self (atom_number b.remove-outcome.result) c.self.invariant.counted b.unwrap-i.result (atom_there b) c.remove-2.ensures);
     }
 
 pub returns-clause-plain : goal.returns-clause-plain

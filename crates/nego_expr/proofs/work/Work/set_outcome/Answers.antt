@@ -1,4 +1,5 @@
 use Rattle.std.proofs.Common.{◌≡◌, ◌≢◌, ◌↔◌, ◌⊎◌, ◌<◌, ℕ, List, refl, Option, Some, length, map, option_map, slice_get, slice_index_or, sym, subst, ap, IfSome, ◌∙◌}
+use Rattle.std.proofs.Math.Seq.{map-set_same}
 use Rattle.std.proofs.lemmas.Option.{slice_get_read}
 use Rattle.std.specs.List.{Contains}
 use Rattle.nego_expr.specs.declared.outcome.Outcome.{Outcome}
@@ -6,7 +7,7 @@ use Rattle.nego_expr.specs.Work.{WorkOutcome, outcome_among}
 use Rattle.nego_expr.specs.Edits.{with_outcome}
 use Rattle.nego_expr.specs.Room.{RoomyWork}
 use Rattle.nego_expr.specs.Sorted.{PlainSlot, slot_of, AreSlotsOf}
-use Rattle.nego_expr.specs.WorkView.{plain_outcome, plain_work, AreAlive}
+use Rattle.nego_expr.specs.WorkView.{atom_number, plain_outcome, plain_work, AreAlive, AreCountsOf}
 use Rattle.nego_expr.proofs.Places.{set-found}
 use Rattle.nego_expr.proofs.WorkEdits.{All-found, found-number}
 use Rattle.nego_expr.proofs.SlotsOf.{slot-found, slots-set}
@@ -70,6 +71,8 @@ invariant_of-self c =
       sorted = subst (λ os. AreSlotsOf os c.replace.new.self.items) (sym (after c))
           (slots-set outcomes c.self.invariant.alive.rising c.args.o.0 (old b) (found b) w.slots.items c.self.invariant.sorted (new b) same c.replace.new.self.items
           (subst (λ n. (slot : PlainSlot) → Contains c.replace.new.self.items slot ↔ ((Contains w.slots.items slot × (slot ≢ slot_of (old b))) ⊎ (slot ≡ slot_of (record (new b) { number = n })))) (sym same) c.replace.ensures.items));
+      counted = subst (λ ns. AreCountsOf ns w.counts)
+          (sym (ap (map atom_number) c.set.ensures.items ∙ map-set_same atom_number w.outcomes.items c.unwrap-i.result _ c.index-outcomes-i.result (ap atom_number (read b)))) c.self.invariant.counted;
     }
 
 pub returns-clause-plain : goal.returns-clause-plain
