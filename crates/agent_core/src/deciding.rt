@@ -6,7 +6,7 @@ ghost use Rattle.nego_base.specs.Members.{is_in};
 ghost use Rattle.nego_model.specs.Negotiation.{IsDeterministic};
 ghost use Rattle.nego_model.specs.Diagram.{negotiation_of};
 ghost use Rattle.agent_msg.specs.Messages.{ready_message};
-ghost use Rattle.agent_msg.specs.Records.{entry, IsTidy};
+ghost use Rattle.agent_msg.specs.Records.{Entry, entry, IsTidy};
 ghost use Rattle.agent_core.specs.Agents.{IsStep, IsValid};
 ghost use Rattle.agent_core.specs.Deciding.{atom_to_decide, decision_by, unless_from, without_from, decided, after_decision, reduces};
 ghost use Rattle.agent_core.specs.Views.{plain_decided, plain_refused, IsTidyDecided};
@@ -29,6 +29,20 @@ impl Agent {
         match self.atom_to_decide(d) {
             Ok(n) => Some(pick(d, n, self.known_joint(d, n), c).choice),
             Err(_) => None,
+        }
+    }
+
+    /// What the agent decides by a choice, or why it doesn't decide. It changes nothing.
+    pub fn would_decide(&self, d: &Diagram, c: Choice) -> Decided
+        requires deterministic { IsDeterministic (negotiation_of d.now) }
+        requires valid { IsValid d.now self.now.plain }
+        ensures answer { plain_decided result ≡ decided d.now self.now.plain c }
+        ensures step { (e : Entry) → plain_decided result ≡ Ok e → IsStep d.now self.now.plain e }
+        ensures tidy { IsTidyDecided result }
+    {
+        match self.atom_to_decide(d) {
+            Ok(n) => Decided::Done(self.decision(d, n, c)),
+            Err(refused) => refusal(refused),
         }
     }
 
