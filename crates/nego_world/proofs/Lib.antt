@@ -5,6 +5,7 @@ pub mod Prefixes
 pub mod Standing
 pub mod Steps
 pub mod Sent
+pub mod Equal
 pub mod Agents
 pub mod Keeping
 pub mod Deeds

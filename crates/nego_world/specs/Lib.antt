@@ -1,4 +1,5 @@
 pub mod Events
+pub mod Roomy
 pub mod WorldView
 pub mod Stepping
 pub mod Laws

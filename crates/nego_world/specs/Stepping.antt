@@ -1,11 +1,13 @@
 -- What a step answers.
 use Rattle.std.specs.Prelude.{◌≡◌, ℕ, ◌≤◌, List, length, slice_get, Option, None, Some, Ok, Err, All, ⊤}
-use Rattle.std.specs.Option.{option_map, option_and_then}
+use Rattle.std.specs.Option.{option_map, option_map_or, option_and_then, option_to_list, is_none}
+use Rattle.std.specs.List.{filter}
 use Rattle.nego_model.specs.Diagram.{PlainDiagram}
 use Rattle.agent_msg.specs.Messages.{ReadyMessage, DecideMessage, Message, ready_message, decide_message}
-use Rattle.agent_msg.specs.Records.{entry}
+use Rattle.agent_msg.specs.Records.{Share, Entry, entry, IsTidy}
+use Rattle.agent_core.specs.Agents.{share_of}
 use Rattle.agent_core.specs.Acts.{Given, Kept, Recorded, Again, Old, Stranger, ready_of, given}
-use Rattle.agent_core.specs.Deciding.{Undecided}
+use Rattle.agent_core.specs.Deciding.{value_in}
 use Rattle.agent_core.specs.Deciding as undecided
 use Rattle.agent_core.specs.Worlds.{PlainWorld, PlainEvent, Tell, Give, Decide, Stop, Ending, GoesOn, StopsBefore, StopsAfter, Refusal, Deed, agent_of, addressee, deed_of, step, first_world, plays}
 use Rattle.agent_core.specs.Worlds as worlds
@@ -23,6 +25,14 @@ ready_in diagram world (Tell a) = ready_of diagram (agent_of diagram world a)
 ready_in diagram world (Give i ending) = None
 ready_in diagram world (Decide a choice ending) = None
 ready_in diagram world (Stop a) = None
+
+-- the record that is kept of a message, if there is one
+abbrev pub kept_of : Given → Option Entry
+kept_of Kept = None
+kept_of (Recorded r) = Some r
+kept_of (Again decide) = None
+kept_of Old = None
+kept_of Stranger = None
 
 -- the Decide that is sent again, if a message gets it
 abbrev pub again_of : Given → Option DecideMessage
@@ -59,6 +69,16 @@ pub record TellsDeed (diagram : PlainDiagram) (world : PlainWorld) (event : Plai
   pub ready : option_map ready_message stepped.ready ≡ ready_in diagram world event
   pub again : option_map decide_message stepped.again ≡ again_in diagram world event
 
+-- What a step keeps is tidy.
+abbrev pub KeepsTidy : Stepped → Type 0
+KeepsTidy stepped = All IsTidy (option_to_list stepped.kept)
+
+-- An event happened: this is the world after it, and this the answer.
+pub record Happened (diagram : PlainDiagram) (world : PlainWorld) (event : PlainEvent) (stepped : Stepped) (next : PlainWorld) : Type 0 where
+  pub leaves : step diagram world event ≡ Ok next
+  pub told : TellsDeed diagram world event stepped
+  pub tidy : KeepsTidy stepped
+
 -- why an event is refused, in plain numbers
 abbrev pub plain_why : StepWhy → Refusal
 plain_why (whys.NoMessage i) = worlds.NoMessage i
@@ -83,6 +103,15 @@ abbrev pub HasPlayFault : PlainDiagram → ℕ → List (ℕ × PlainEvent) → 
 HasPlayFault diagram start lines (fails.At line why) = plays diagram (first_world diagram start) lines ≡ Err (line, plain_why why)
 HasPlayFault diagram start lines fails.Memory = ⊤
 
+-- the value of an agent behind a decision with these shares, before which the data are d: its value after where it is a
+-- party, and else the one before
+abbrev pub value_after_in : PlainDiagram → ℕ → List Share → ℕ → ℕ
+value_after_in diagram d shares a = option_map_or (λ s. s.after) (share_of a shares) (value_in diagram d a)
+
 -- Each agent has at most 10,000 records.
 abbrev pub HasFewRecords : PlainWorld → Type 0
 HasFewRecords world = All (λ agent. length agent.records ≤ 10000) world.agents
+
+-- how many agents are finished
+abbrev pub finished_count : PlainWorld → ℕ
+finished_count world = length (filter (λ agent. is_none agent.at) world.agents)

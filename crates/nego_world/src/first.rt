@@ -10,10 +10,11 @@ ghost use Rattle.agent_core.specs.Worlds.{first_world};
 ghost use Rattle.agent_core.specs.Consistency.{IsConsistent};
 
 use crate::World;
+use crate::history::History;
+use crate::messages::Messages;
 use agent_core::Agent;
-use indexmap::IndexSet;
 use nego_base::{AgentId, Memory, Seq};
-use nego_model::{Diagram, Run};
+use nego_model::Diagram;
 use std::alloc::Global;
 
 impl World {
@@ -26,11 +27,9 @@ impl World {
     {
         let agents = first_agents(alloc, d, start)?;
         Ok(World {
-            start,
             agents,
-            sent: IndexSet::new(alloc),
-            history: Run::new(alloc),
-            joints: Seq::new(alloc),
+            sent: Messages::new(alloc),
+            history: History::new(alloc, start),
         })
     }
 }

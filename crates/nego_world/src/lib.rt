@@ -1,11 +1,13 @@
-//! The world of all agents: what holds of it, whatever happens. Events and answers are declared for the calls that let
-//! events happen, which are still to come.
+//! The world of all agents: events happen in it, and what holds of it, whatever happens.
 #![tactic(auto)]
 
 mod answers;
 mod event;
 mod first;
+mod history;
 mod laws;
+mod messages;
+mod stepping;
 mod world;
 
 pub use answers::{PlayFault, StepFault, StepWhy, Stepped};

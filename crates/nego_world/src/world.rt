@@ -1,13 +1,16 @@
 //! The world of all agents, and what one reads of it.
-ghost use Rattle.std.specs.Prelude.{◌≡◌, ◌<◌, length, slice_get, Some};
+ghost use Rattle.std.specs.Prelude.{◌≡◌, ◌<◌, length, slice_get, Some, IfSome, IfNone};
+ghost use Rattle.std.specs.List.{Contains};
 ghost use Rattle.std.specs.Option.{option_map};
 ghost use Rattle.nego_model.specs.Joining.{steps_of};
 ghost use Rattle.nego_model.specs.Followed.{occurrences};
 ghost use Rattle.agent_msg.specs.Messages.{message};
+ghost use Rattle.nego_world.specs.Stepping.{finished_count};
 
+use crate::history::History;
+use crate::messages::Messages;
 use agent_core::Agent;
 use agent_msg::Msg;
-use indexmap::IndexSet;
 use nego_base::{AgentId, Seq};
 use nego_model::Run;
 use std::marker::Model;
@@ -15,14 +18,9 @@ use std::marker::Model;
 /// The world of all agents. Contracts see a plain world.
 #[derive(Drop)]
 pub struct World {
-    /// The joint data at the start: what contracts speak of, and nothing reads.
-    pub(crate) start: u16,
     pub(crate) agents: Seq<Agent>,
-    /// The messages, each once, in the order of first sending.
-    pub(crate) sent: IndexSet<Msg>,
-    pub(crate) history: Run,
-    /// The joint data after each entry of the history.
-    pub(crate) joints: Seq<u16>,
+    pub(crate) sent: Messages,
+    pub(crate) history: History,
 }
 
 impl Model for World {
@@ -30,11 +28,13 @@ impl Model for World {
 
     ghost Value = { PlainWorld };
 
-    ghost use Rattle.nego_world.specs.WorldView.{plain_world, IsKept};
+    ghost use Rattle.nego_world.specs.WorldView.{plain_world};
+
+    ghost use Rattle.std.specs.Prelude.{◌≤◌, length};
 
     ghost view = { plain_world };
 
-    ghost invariant = { IsKept };
+    ghost invariant = { λ w. length w.agents ≤ 16 };
 }
 
 impl World {
@@ -50,21 +50,29 @@ impl World {
     pub fn sent(&self) -> u32
         ensures { result ≡ length self.now.sent }
     {
-        self.sent.len() as u32
+        self.sent.len()
     }
 
     /// The message of a number.
     pub fn message(&self, i: u32) -> Option<Msg>
         ensures { option_map message result ≡ slice_get self.now.sent i }
     {
-        self.sent.get_index(i as usize).copied()
+        self.sent.get(i)
+    }
+
+    /// The number of a message. None exactly where it wasn't sent.
+    pub fn number_of(&self, m: &Msg) -> Option<u32>
+        ensures some { IfSome result (λ i. slice_get self.now.sent i ≡ Some (message m.now)) }
+        ensures none { IfNone result (¬ Contains self.now.sent (message m.now)) }
+    {
+        self.sent.number_of(m)
     }
 
     /// The occurrences of the history.
     pub fn history(&self) -> &Run
         ensures { occurrences result.now ≡ steps_of self.now.history }
     {
-        &self.history
+        self.history.steps()
     }
 
     /// The joint data after an entry of the history.
@@ -72,6 +80,16 @@ impl World {
         requires { i < length self.now.history }
         ensures { option_map (λ entry. entry.joint) (slice_get self.now.history i) ≡ Some result }
     {
-        self.joints[i]
+        self.history.joint_after(i)
+    }
+
+    /// How many agents are finished.
+    pub fn finished(&self) -> u32
+        ensures { result ≡ finished_count self.now }
+    {
+        self.agents
+            .iter()
+            .filter(|agent| agent.at().is_none())
+            .count() as u32
     }
 }
