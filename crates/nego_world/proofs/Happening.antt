@@ -23,7 +23,7 @@ use Rattle.nego_world.proofs.Moves.{giving-allowed}
 use Rattle.nego_world.proofs.Deciding.{deciding-allowed}
 
 -- an item at a place is one of the list
-Contains_at : {A : Type 0} (xs : List A) (i : ℕ) (x : A) → slice_get xs i ≡ Some x → Contains xs x
+pub Contains_at : {A : Type 0} (xs : List A) (i : ℕ) (x : A) → slice_get xs i ≡ Some x → Contains xs x
 Contains_at [] i x h = absurd (none-some x h)
 Contains_at (y ∷ ys) zero x h = (0, omega arith, same_Some y x h)
 Contains_at (y ∷ ys) (suc i) x h = Contains-tail y ys x (Contains_at ys i x h)

@@ -18,3 +18,4 @@ pub mod Beginning
 pub mod Finishing
 pub mod Happening
 pub mod Entries
+pub mod Acting

@@ -1,5 +1,5 @@
 //! The world at the beginning.
-ghost use Rattle.std.specs.Prelude.{◌≡◌, ◌<◌, length, map, slice_index, IfOk};
+ghost use Rattle.std.specs.Prelude.{◌≡◌, ◌<◌, ◌≤◌, length, map, slice_index, IfOk};
 ghost use Rattle.std.specs.List.{range_with_len};
 ghost use Rattle.nego_data.specs.Data.{data_count};
 ghost use Rattle.nego_model.specs.Negotiation.{IsDeterministic};
@@ -38,7 +38,8 @@ impl World {
 fn first_agents(alloc: Global, d: &Diagram, start: u16) -> Result<Seq<Agent>, Memory>
     requires deterministic { IsDeterministic (negotiation_of d.now) }
     requires start { start < data_count d.now.sizes }
-    ensures { IfOk result (λ agents. map (λ agent. agent.plain) agents ≡ map (λ a. beginning d.now a (value_in d.now start a)) (range_with_len 0 (length d.now.agents))) }
+    ensures agents { IfOk result (λ agents. map (λ agent. agent.plain) agents ≡ map (λ a. beginning d.now a (value_in d.now start a)) (range_with_len 0 (length d.now.agents))) }
+    ensures few { IfOk result (λ agents. length agents ≤ 16) }
 {
     let values = d.sizes().split(start);
     let mut agents = Seq::new(alloc);

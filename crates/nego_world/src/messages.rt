@@ -1,14 +1,14 @@
 //! The messages that were sent.
 ghost use Rattle.std.specs.Prelude.{◌≡◌, ◌+◌, ◌<◌, ◌≤◌, [], ◌∷◌, length, map, fold, slice_get, Some, IfSome, IfNone, OnOk, OnErr};
 ghost use Rattle.std.specs.List.{Contains};
-ghost use Rattle.std.specs.Option.{option_map};
-ghost use Rattle.agent_msg.specs.Messages.{message};
+ghost use Rattle.std.specs.Option.{option_map, option_to_list};
+ghost use Rattle.agent_msg.specs.Messages.{ReadyOf, DecideOf, message, ready_message, decide_message};
 ghost use Rattle.agent_msg.specs.Records.{entry};
 ghost use Rattle.agent_core.specs.Agents.{shares_in};
 ghost use Rattle.agent_core.specs.Deciding.{decides_of};
 ghost use Rattle.agent_core.specs.Worlds.{with_message};
 
-use agent_msg::{Msg, Record, decide_for};
+use agent_msg::{Decide, Msg, Ready, Record, decide_for};
 use indexmap::IndexSet;
 use nego_base::{AgentId, AgentSet, Memory};
 use std::alloc::Global;
@@ -95,6 +95,27 @@ impl Messages {
         self.room -= 1;
     }
 
+    /// Puts a Ready, where there is one. There is to be room for it.
+    pub(crate) fn put_ready(&mut self, ready: Option<Ready>)
+        requires { 0 < self.old.room }
+        ensures { self.new.messages ≡ fold with_message self.old.messages (map ReadyOf (option_to_list (option_map ready_message ready))) }
+    {
+        if let Some(ready) = ready {
+            self.put(Msg::Ready(ready));
+        }
+    }
+
+    /// Puts a Decide, where there is one. There is to be room for it.
+    pub(crate) fn put_again(&mut self, decide: Option<Decide>)
+        requires { 0 < self.old.room }
+        ensures messages { self.new.messages ≡ fold with_message self.old.messages (map DecideOf (option_to_list (option_map decide_message decide))) }
+        ensures room { self.old.room ≤ self.new.room + 1 }
+    {
+        if let Some(decide) = decide {
+            self.put(Msg::Decide(decide));
+        }
+    }
+
     /// Puts the Decides of a record, in rising order of those who are told. There is to be room for 16.
     pub(crate) fn put_decides(&mut self, from: AgentId, r: &Record)
         requires { 16 ≤ self.old.room }
@@ -102,19 +123,8 @@ impl Messages {
     {
         let mut left = parties_in(r);
         while let Some(to) = left.least() {
-            self.put_decide(from, to, r);
+            self.put_again(decide_for(r, from, to));
             left = left.without(to);
-        }
-    }
-
-    /// Puts the Decide of a record to an agent, where there is one.
-    fn put_decide(&mut self, from: AgentId, to: AgentId, r: &Record)
-        requires { 0 < self.old.room }
-        ensures messages { self.new.messages ≡ fold with_message self.old.messages (decides_of from.0 (to.0 ∷ []) (entry r.now)) }
-        ensures room { self.old.room ≤ self.new.room + 1 }
-    {
-        if let Some(decide) = decide_for(r, from, to) {
-            self.put(Msg::Decide(decide));
         }
     }
 }

@@ -1,8 +1,8 @@
 //! Events happen to the world.
-ghost use Rattle.std.specs.Prelude.{◌≡◌, ◌<◌, ◌≤◌, length, Ok, All, IfOk, IfErr, OnOk, OnErr};
+ghost use Rattle.std.specs.Prelude.{◌≡◌, ◌<◌, ◌≤◌, length, slice_get, Some, Ok, All, IfOk, IfErr, OnOk, OnErr};
 ghost use Rattle.std.specs.Option.{option_map, option_to_list};
 ghost use Rattle.nego_model.specs.Negotiation.{IsDeterministic};
-ghost use Rattle.nego_model.specs.Diagram.{PlainDiagram, negotiation_of};
+ghost use Rattle.nego_model.specs.Diagram.{PlainDiagram, IsDiagram, negotiation_of};
 ghost use Rattle.agent_msg.specs.Messages.{message, decide_message};
 ghost use Rattle.agent_msg.specs.Records.{entry, IsTidy};
 ghost use Rattle.agent_core.specs.Agents.{IsValid, IsStep};
@@ -35,6 +35,7 @@ impl World {
         ensures unchanged { OnErr result (self.new ≡ self.old) }
         ensures consistent { IsConsistent d.now self.new }
     {
+        let _agents = d.agents();
         match *e {
             Event::Tell(a) => self.tell(d, a),
             Event::Give(i) => self.give(d, i),
@@ -49,6 +50,7 @@ impl World {
 
     /// An agent tells.
     fn tell(&mut self, d: &Diagram, a: AgentId) -> Result<Stepped, StepFault>
+        requires diagram { IsDiagram d.now }
         requires deterministic { IsDeterministic (negotiation_of d.now) }
         requires consistent { IsConsistent d.now self.old }
         requires known { a.0 < length d.now.agents }
@@ -58,9 +60,7 @@ impl World {
     {
         self.sent.reserve(1)?;
         let ready = self.agents[a.0 as usize].tell(d);
-        if let Some(ready) = ready {
-            self.sent.put(Msg::Ready(ready));
-        }
+        self.sent.put_ready(ready);
         Ok(Stepped {
             agent: a,
             kept: None,
@@ -83,8 +83,20 @@ impl World {
         }
     }
 
+    /// The message of a number, to be given.
+    fn to_give(&self, i: u32) -> Result<Msg, StepFault>
+        ensures ok { IfOk result (λ m. slice_get self.now.sent i ≡ Some (message m)) }
+        ensures err { IfErr result (λ fault. (diagram : PlainDiagram) (ending : Ending) → HasStepFault diagram self.now (worlds.Give i ending) fault) }
+    {
+        match self.message(i) {
+            Some(m) => Ok(m),
+            None => Err(StepFault::NoMessage(i)),
+        }
+    }
+
     /// A message is given.
     fn give(&mut self, d: &Diagram, i: u32) -> Result<Stepped, StepFault>
+        requires diagram { IsDiagram d.now }
         requires deterministic { IsDeterministic (negotiation_of d.now) }
         requires consistent { IsConsistent d.now self.old }
         requires few { HasFewRecords self.old }
@@ -92,14 +104,12 @@ impl World {
         ensures err { IfErr result (HasStepFault d.now self.old (worlds.Give i GoesOn)) }
         ensures unchanged { OnErr result (self.new ≡ self.old) }
     {
-        let m = self.sent.get(i).ok_or(StepFault::NoMessage(i))?;
+        let m = self.to_give(i)?;
         let to = addressee(&m);
         self.sent.reserve(1)?;
         let given = take(&mut self.agents[to.0 as usize], d, &m)?;
         let again = decide_again(&given);
-        if let Some(decide) = again {
-            self.sent.put(Msg::Decide(decide));
-        }
+        self.sent.put_again(again);
         Ok(Stepped {
             agent: to,
             kept: recorded(&given),
@@ -110,18 +120,20 @@ impl World {
 
     /// A message is given to an agent that stops before a record is kept.
     fn lose_given(&mut self, d: &Diagram, i: u32) -> Result<Stepped, StepFault>
+        requires diagram { IsDiagram d.now }
         requires deterministic { IsDeterministic (negotiation_of d.now) }
         requires consistent { IsConsistent d.now self.old }
         ensures ok { IfOk result (λ stepped. Happened d.now self.old (worlds.Give i StopsBefore) stepped self.new) }
         ensures err { IfErr result (HasStepFault d.now self.old (worlds.Give i StopsBefore)) }
         ensures unchanged { OnErr result (self.new ≡ self.old) }
     {
-        let m = self.sent.get(i).ok_or(StepFault::NoMessage(i))?;
+        let m = self.to_give(i)?;
         Ok(self.stop(addressee(&m)))
     }
 
     /// A message is given to an agent that stops after a record is kept, before anything is sent.
     fn keep_given(&mut self, d: &Diagram, i: u32) -> Result<Stepped, StepFault>
+        requires diagram { IsDiagram d.now }
         requires deterministic { IsDeterministic (negotiation_of d.now) }
         requires consistent { IsConsistent d.now self.old }
         requires few { HasFewRecords self.old }
@@ -129,7 +141,7 @@ impl World {
         ensures err { IfErr result (HasStepFault d.now self.old (worlds.Give i StopsAfter)) }
         ensures unchanged { OnErr result (self.new ≡ self.old) }
     {
-        let m = self.sent.get(i).ok_or(StepFault::NoMessage(i))?;
+        let m = self.to_give(i)?;
         let to = addressee(&m);
         let agent = &mut self.agents[to.0 as usize];
         let given = take(agent, d, &m)?;
@@ -144,6 +156,7 @@ impl World {
 
     /// What an agent decides, or why it doesn't.
     fn decision(&self, d: &Diagram, a: AgentId, c: Choice) -> Result<Record, StepFault>
+        requires diagram { IsDiagram d.now }
         requires deterministic { IsDeterministic (negotiation_of d.now) }
         requires consistent { IsConsistent d.now self.now }
         requires known { a.0 < length d.now.agents }
@@ -162,6 +175,7 @@ impl World {
 
     /// An agent decides. All that grows is made to grow before the agent changes.
     fn decide(&mut self, d: &Diagram, a: AgentId, c: Choice) -> Result<Stepped, StepFault>
+        requires diagram { IsDiagram d.now }
         requires deterministic { IsDeterministic (negotiation_of d.now) }
         requires consistent { IsConsistent d.now self.old }
         requires few { HasFewRecords self.old }
@@ -187,6 +201,7 @@ impl World {
 
     /// An agent decides, but stops before its record is kept.
     fn lose_decision(&mut self, d: &Diagram, a: AgentId, c: Choice) -> Result<Stepped, StepFault>
+        requires diagram { IsDiagram d.now }
         requires deterministic { IsDeterministic (negotiation_of d.now) }
         requires consistent { IsConsistent d.now self.old }
         requires known { a.0 < length d.now.agents }
@@ -194,12 +209,13 @@ impl World {
         ensures err { IfErr result (HasStepFault d.now self.old (worlds.Decide a.0 c StopsBefore)) }
         ensures unchanged { OnErr result (self.new ≡ self.old) }
     {
-        let _lost = self.decision(d, a, c)?;
+        self.decision(d, a, c)?;
         Ok(self.stop(a))
     }
 
     /// An agent decides, but stops after its record is kept, before anything is sent.
     fn keep_decision(&mut self, d: &Diagram, a: AgentId, c: Choice) -> Result<Stepped, StepFault>
+        requires diagram { IsDiagram d.now }
         requires deterministic { IsDeterministic (negotiation_of d.now) }
         requires consistent { IsConsistent d.now self.old }
         requires few { HasFewRecords self.old }

@@ -10,7 +10,7 @@ returns-clause-consistent c =
     let start = c.args.start in
     let first = first_world d start in
     let same : ◌≡◌ {A = PlainWorld} (record { start = c.new-2.result.start; agents = map (λ agent. agent.plain) c.in_ok-agents.agents; sent = c.new.result.messages; history = c.new-2.result.entries }) (first_world d start) =
-    ap {B = PlainWorld} (λ agents. record { start = c.new-2.result.start; agents = agents; sent = c.new.result.messages; history = c.new-2.result.entries }) c.in_ok-agents.ensures
+    ap {B = PlainWorld} (λ agents. record { start = c.new-2.result.start; agents = agents; sent = c.new.result.messages; history = c.new-2.result.entries }) c.in_ok-agents.ensures.agents
     ∙ (ap {B = PlainWorld} (λ sent. record { start = c.new-2.result.start; agents = first.agents; sent = sent; history = c.new-2.result.entries }) c.new.ensures
     ∙ (ap {B = PlainWorld} (λ entries. record { start = c.new-2.result.start; agents = first.agents; sent = []; history = entries }) c.new-2.ensures.entries
     ∙ ap {B = PlainWorld} (λ s. record { start = s; agents = first.agents; sent = []; history = [] }) c.new-2.ensures.start)) in
