@@ -1,11 +1,11 @@
 -- What the calls of an agent make of the world.
-use Rattle.std.proofs.Common.{◌≡◌, ℕ, ◌<◌, ◌≤◌, List, [], ◌∷◌, All, length, map, fold, slice_get, slice_set, Some, None, Result, Ok, Err, refl, sym, ap, subst, ◌∙◌, arith}
+use Rattle.std.proofs.Common.{◌≡◌, ℕ, ◌<◌, ◌≤◌, List, [], ◌∷◌, All, length, map, fold, slice_get, slice_set, Some, None, Result, Ok, Err, IfErr, OnErr, refl, sym, ap, subst, ◌∙◌, arith}
 use Rattle.std.proofs.lemmas.Option.{get_or_from_slice_get, slice_get-map, slice_get_within}
 use Rattle.std.proofs.lemmas.List.{map-set, set-get_or, length-map}
 use Rattle.std.proofs.lemmas.List.Elements.{All-nil}
 use Rattle.std.proofs.Math.Seq.{map-set_same}
 use Rattle.std.specs.Option.{option_map, option_map_or, option_and_then, option_to_list}
-use Rattle.std.specs.Result.{result_map_both, result_unwrap_or}
+use Rattle.std.specs.Result.{result_map_both, result_unwrap_or, IsErrAnd}
 use Rattle.nego_base.specs.Results.{◌>>=◌}
 use Rattle.nego_base.proofs.Cases.{same_Ok, same_Err, ok-err, bind_ok}
 use Rattle.nego_data.specs.Data.{data_count}
@@ -62,6 +62,16 @@ undecided-is diagram agent choice why h = go (atom_to_decide diagram agent) refl
     go : (r : Result ℕ Undecided) → atom_to_decide diagram agent ≡ r → (r >>= λ n. Ok (decision_by diagram agent n choice)) ≡ Err why → (atom_to_decide diagram agent >>= λ n. Ok (deciding diagram agent n choice)) ≡ Err why
     go (Err w) e k = ap (λ a. a >>= λ n. Ok (deciding diagram agent n choice)) e ∙ ap (λ x. Err x) (same_Err w why k)
     go (Ok n) e k = absurd (ok-err (decision_by diagram agent n choice) why k)
+
+-- a fault that is handed on
+pub fault-is : {T E : Type 0} (P : E → Type 0) (r : Result T E) (fault : E) → IsErrAnd r (λ e. e ≡ fault) → P fault → IfErr r P
+fault-is P (Err e) fault h p = subst P (sym h) p
+fault-is P (Ok x) fault h p = tt
+
+-- what holds however a call ends
+pub on-err : {T E : Type 0} (X : Type 0) (r : Result T E) → X → OnErr r X
+on-err X (Err e) x = x
+on-err X (Ok y) x = tt
 
 -- the agent of a place of the world
 pub agent-there : (diagram : PlainDiagram) (now : PlainWorld) (a : ℕ) (agent : PlainAgent) → slice_get now.agents a ≡ Some agent → agent_of diagram now a ≡ agent
@@ -192,6 +202,15 @@ module _ (diagram : PlainDiagram) (start : ℕ) (agents : List RoomyAgent) (sent
   pub decided-deed : (a : ℕ) (g : RoomyAgent) (choice : Choice) (ending : Ending) (act : Act) → slice_get agents a ≡ Some g → decides diagram g.plain choice ≡ Ok act → deed_of diagram seen (Decide a choice ending) ≡ Ok (deed_by a ending act)
   decided-deed a g choice ending act at h =
       ap (λ x. result_map_both (deed_by a ending) NoDecision (decides diagram x choice)) (agent-seen a g at) ∙ ap (result_map_both (deed_by a ending) NoDecision) h
+
+  -- the world from parts that are as they were
+  pub unchanged : (now : PlainWorld) → seen ≡ now → (next_start : ℕ) (next_agents : List PlainAgent) (next_sent : List Message) (next_history : List model.Entry) → next_start ≡ start → next_agents ≡ seen.agents → next_sent ≡ sent → next_history ≡ history →
+      ◌≡◌ {A = PlainWorld} (record { start = next_start; agents = next_agents; sent = next_sent; history = next_history }) now
+  unchanged now view next_start next_agents next_sent next_history starts stays sends enters =
+      ap {B = PlainWorld} (λ x. record { start = x; agents = next_agents; sent = next_sent; history = next_history }) starts
+      ∙ (ap {B = PlainWorld} (λ x. record { start = start; agents = x; sent = next_sent; history = next_history }) stays
+      ∙ (ap {B = PlainWorld} (λ x. record { start = start; agents = seen.agents; sent = x; history = next_history }) sends
+      ∙ (ap {B = PlainWorld} (λ x. record { start = start; agents = seen.agents; sent = sent; history = x }) enters ∙ view)))
 
   -- the world after an event, from its parts
   pub happened : (now : PlainWorld) → seen ≡ now → (event : PlainEvent) (deed : Deed) (stepped : Stepped) (next_start : ℕ) (next_agents : List PlainAgent) (next_sent : List Message) (next_history : List model.Entry) →
