@@ -36,6 +36,20 @@ impl World {
         ensures consistent { IsConsistent d.now self.new }
     {
         let _agents = d.agents();
+        self.happen(d, e)
+    }
+
+    /// Lets an event happen, by its kind.
+    fn happen(&mut self, d: &Diagram, e: &Event) -> Result<Stepped, StepFault>
+        requires diagram { IsDiagram d.now }
+        requires deterministic { IsDeterministic (negotiation_of d.now) }
+        requires consistent { IsConsistent d.now self.old }
+        requires few { HasFewRecords self.old }
+        requires known { NamesAgent d.now (plain_event e.now) }
+        ensures ok { IfOk result (λ stepped. Happened d.now self.old (plain_event e.now) stepped self.new) }
+        ensures err { IfErr result (HasStepFault d.now self.old (plain_event e.now)) }
+        ensures unchanged { OnErr result (self.new ≡ self.old) }
+    {
         match *e {
             Event::Tell(a) => self.tell(d, a),
             Event::Give(i) => self.give(d, i),
