@@ -1,5 +1,5 @@
 -- What the calls of an agent make of the world.
-use Rattle.std.proofs.Common.{◌≡◌, ℕ, ◌<◌, ◌≤◌, List, [], ◌∷◌, All, length, map, fold, slice_get, slice_set, Some, None, Result, Ok, Err, IfErr, OnErr, refl, sym, ap, subst, ◌∙◌, arith}
+use Rattle.std.proofs.Common.{◌≡◌, ℕ, ◌<◌, ◌≤◌, List, [], ◌∷◌, All, length, map, fold, slice_get, slice_set, Some, None, Result, Ok, Err, IfOk, IfErr, OnErr, refl, sym, ap, subst, ◌∙◌, arith}
 use Rattle.std.proofs.lemmas.Option.{get_or_from_slice_get, slice_get-map, slice_get_within}
 use Rattle.std.proofs.lemmas.List.{map-set, set-get_or, length-map}
 use Rattle.std.proofs.lemmas.List.Elements.{All-nil}
@@ -25,11 +25,13 @@ use Rattle.agent_core.specs.Deciding.{Undecided, known_joint, chosen_joint, shar
 use Rattle.agent_core.specs.Worlds.{PlainWorld, PlainEvent, Give, Decide, Stop, Ending, GoesOn, StopsBefore, Refusal, NoMessage, NoDecision, Deed, start_of, agent_of, addressee, given_act, stopping, deed_by, entered, with_message, deed_of, after_deed, step}
 use Rattle.agent_core.specs.Consistency.{IsConsistent}
 use Rattle.nego_world.specs.declared.answers.Stepped.{Stepped}
+use Rattle.nego_world.specs.declared.answers.StepFault.{StepFault}
+use Rattle.nego_world.specs.Events.{NamesAgent}
 use Rattle.nego_world.specs.Stepping.{kept_of, again_of, again_to, ready_in, again_in, KeepsTidy, Happened, HasFewRecords}
 use Rattle.nego_world.proofs.Agents.{valid-each, id-each}
 use Rattle.nego_world.proofs.Giving.{recorded-awaited}
 use Rattle.nego_world.proofs.Moves.{addressee-below}
-use Rattle.nego_world.proofs.Happening.{Contains_at}
+use Rattle.nego_world.proofs.Happening.{Contains_at, step-consistent}
 
 -- what is recorded of a message, and what is sent
 pub taking-kept : (agent : PlainAgent) (m : Message) (g : Given) → kept_of g ≡ (taking agent m g).kept
@@ -231,3 +233,9 @@ module _ (diagram : PlainDiagram) (start : ℕ) (agents : List RoomyAgent) (sent
         told = record { deed = deed; done = done; agent = agent; kept = kept; ready = ready; again = again };
         tidy = tidy;
       })
+
+-- however a step ends, a consistent world stays so
+pub consistent-step : (diagram : PlainDiagram) → IsDiagram diagram → IsDeterministic (negotiation_of diagram) → (world next : PlainWorld) (event : PlainEvent) (r : Result Stepped StepFault) → IsConsistent diagram world → NamesAgent diagram event →
+    IfOk r (λ stepped. Happened diagram world event stepped next) → OnErr r (next ≡ world) → IsConsistent diagram next
+consistent-step diagram ok single world next event (Ok stepped) was known h same = step-consistent diagram ok single world next was event known h.leaves
+consistent-step diagram ok single world next event (Err fault) was known h same = subst (λ w. IsConsistent diagram w) (sym same) was

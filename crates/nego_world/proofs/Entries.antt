@@ -1,7 +1,8 @@
 -- A history kept as occurrences and joint data.
-use Rattle.std.proofs.Common.{◌≡◌, ℕ, zero, suc, ◌-◌, ◌<◌, List, [], ◌∷◌, ◌++◌, All, length, slice_get, Option, Some, None, refl, ap, subst, arith}
+use Rattle.std.proofs.Common.{◌≡◌, ℕ, zero, suc, ◌-◌, ◌<◌, List, [], ◌∷◌, ◌++◌, All, true, false, cond, length, map, slice_get, Option, Some, None, refl, ap, subst, arith}
 use Rattle.std.proofs.lemmas.Option.{same_Some, none-some, slice_get_within}
-use Rattle.std.specs.Option.{option_map, option_map_or}
+use Rattle.std.specs.List.{filter}
+use Rattle.std.specs.Option.{option_map, option_map_or, is_none}
 use Rattle.nego_base.proofs.ListLaws.{none_at}
 use Rattle.nego_base.specs.declared.ids.AtomId.{AtomId}
 use Rattle.nego_base.specs.declared.ids.OutcomeId.{OutcomeId}
@@ -10,6 +11,7 @@ use Rattle.nego_model.specs.Followed.{occurrences}
 use Rattle.nego_model.specs.Diagram.{PlainDiagram}
 use Rattle.agent_msg.specs.Records.{Share}
 use Rattle.agent_core.specs.Agents.{size_of, share_of}
+use Rattle.agent_core.specs.Roomy.{RoomyAgent}
 use Rattle.agent_core.specs.Deciding.{value_in}
 use Rattle.agent_core.proofs.Shares.{found_share}
 use Rattle.nego_world.specs.Stepping.{value_after_in}
@@ -75,3 +77,9 @@ value-after-below diagram d shares a all before = go (share_of a shares) refl
         let there = found_share a shares s e in
         let below : s.after < size_of diagram s.agent = subst (λ x. x.after < size_of diagram x.agent) there.0.2 (all there.0.0 s there.0.1) in
         subst (λ b. s.after < size_of diagram b) there.1 below
+
+-- as many agents are finished as there are plain ones
+pub count-plain : (agents : List RoomyAgent) → length (filter (λ g. is_none g.plain.at) agents) ≡ length (filter (λ agent. is_none agent.at) (map (λ g. g.plain) agents))
+count-plain [] = refl
+count-plain (g ∷ agents) =
+    elim (is_none g.plain.at) as (λ b. length (cond b (g ∷ filter (λ x. is_none x.plain.at) agents) (filter (λ x. is_none x.plain.at) agents)) ≡ length (cond b (g.plain ∷ filter (λ agent. is_none agent.at) (map (λ x. x.plain) agents)) (filter (λ agent. is_none agent.at) (map (λ x. x.plain) agents)))) [ true ↦ ap suc (count-plain agents) | false ↦ count-plain agents ]

@@ -19,3 +19,4 @@ pub mod Finishing
 pub mod Happening
 pub mod Entries
 pub mod Acting
+pub mod Lines

@@ -98,6 +98,19 @@ HasStepFault diagram world event faults.NotLeader = IsRefused diagram world even
 HasStepFault diagram world event (faults.Waits p) = IsRefused diagram world event (whys.Waits p)
 HasStepFault diagram world event faults.Memory = ⊤
 
+-- the fault of a schedule at a line whose event has this fault
+abbrev pub fault_at : ℕ → StepFault → PlayFault
+fault_at line (faults.NoMessage i) = fails.At line (whys.NoMessage i)
+fault_at line faults.Finished = fails.At line whys.Finished
+fault_at line faults.NotLeader = fails.At line whys.NotLeader
+fault_at line (faults.Waits p) = fails.At line (whys.Waits p)
+fault_at line faults.Memory = fails.Memory
+
+-- Why the event of a line doesn't happen: it is refused for this; or memory is wanted.
+abbrev pub HasLineFault : PlainDiagram → PlainWorld → ℕ → PlainEvent → PlayFault → Type 0
+HasLineFault diagram world line event (fails.At at why) = (at ≡ line) × IsRefused diagram world event why
+HasLineFault diagram world line event fails.Memory = ⊤
+
 -- Why there is no world after a schedule: this event is the first that is refused, for this; or memory is wanted.
 abbrev pub HasPlayFault : PlainDiagram → ℕ → List (ℕ × PlainEvent) → PlayFault → Type 0
 HasPlayFault diagram start lines (fails.At line why) = plays diagram (first_world diagram start) lines ≡ Err (line, plain_why why)

@@ -75,3 +75,13 @@ pub enum PlayFault {
     #[error("out of memory")]
     Memory,
 }
+
+impl From<Memory> for PlayFault {
+    ghost use Rattle.nego_world.specs.declared.answers.PlayFault.TheVariants as faults;
+
+    ghost from_gives = { λ _ e. e ≡ faults.Memory };
+
+    fn from(_error: Memory) -> PlayFault {
+        PlayFault::Memory
+    }
+}

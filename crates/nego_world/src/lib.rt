@@ -7,6 +7,7 @@ mod first;
 mod history;
 mod laws;
 mod messages;
+mod playing;
 mod stepping;
 mod world;
 
@@ -16,4 +17,5 @@ pub use laws::{
     agents_of_consistent_worlds_are_valid, consistent_worlds_finish_complete,
     events_keep_worlds_consistent, first_worlds_are_consistent, schedules_leave_consistent_worlds,
 };
+pub use playing::play;
 pub use world::World;

@@ -1,7 +1,7 @@
 //! The world of all agents, and what one reads of it.
 ghost use Rattle.std.specs.Prelude.{◌≡◌, ◌<◌, length, slice_get, Some, IfSome, IfNone};
 ghost use Rattle.std.specs.List.{Contains};
-ghost use Rattle.std.specs.Option.{option_map};
+ghost use Rattle.std.specs.Option.{option_map, is_none};
 ghost use Rattle.nego_model.specs.Joining.{steps_of};
 ghost use Rattle.nego_model.specs.Followed.{occurrences};
 ghost use Rattle.agent_msg.specs.Messages.{message};
@@ -89,7 +89,17 @@ impl World {
     {
         self.agents
             .iter()
-            .filter(|agent| agent.at().is_none())
+            .filter(|agent| is_finished(agent))
             .count() as u32
+    }
+}
+
+/// Whether an agent is finished.
+fn is_finished(agent: &Agent) -> bool
+    ensures { result ≡ is_none agent.now.plain.at }
+{
+    match agent.at() {
+        Some(_) => false,
+        None => true,
     }
 }
