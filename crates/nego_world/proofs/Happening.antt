@@ -35,7 +35,7 @@ if_ok P (Err e) h = tt
 
 module _ (diagram : PlainDiagram) (ok : IsDiagram diagram) (single : IsDeterministic (negotiation_of diagram)) where
   -- what is done in an event is allowed
-  deed-allowed : (world : PlainWorld) → IsConsistent diagram world → (event : PlainEvent) → NamesAgent diagram event → (deed : Deed) → deed_of diagram world event ≡ Ok deed → IsAllowed diagram world deed
+  pub deed-allowed : (world : PlainWorld) → IsConsistent diagram world → (event : PlainEvent) → NamesAgent diagram event → (deed : Deed) → deed_of diagram world event ≡ Ok deed → IsAllowed diagram world deed
   deed-allowed world was (Tell a) known deed h = subst (λ x. IsAllowed diagram world x) (same_Ok (deed_by a GoesOn (telling diagram (agent_of diagram world a))) deed h) (telling-allowed diagram world a was known)
   deed-allowed world was (Stop a) known deed h = subst (λ x. IsAllowed diagram world x) (same_Ok (deed_by a GoesOn stopping) deed h) (stopping-allowed diagram world a was known)
   deed-allowed world was (Give i ending) known deed h = go (slice_get world.sent i) refl h

@@ -1,6 +1,7 @@
 -- How a schedule goes on, line by line.
-use Rattle.std.proofs.Common.{◌≡◌, ℕ, suc, ◌+◌, ◌<◌, ◌≤◌, List, ◌∷◌, All, length, Option, None, Some, Result, Ok, Err, refl, sym, ap, subst, ◌∙◌, arith, length-append}
+use Rattle.std.proofs.Common.{◌≡◌, ℕ, suc, ◌+◌, ◌<◌, ◌≤◌, List, ◌∷◌, All, drop, length, map, slice_index_or, Option, None, Some, Result, Ok, Err, refl, sym, ap, subst, ◌∙◌, arith, length-append}
 use Rattle.std.proofs.lemmas.List.Elements.{All-set, All-map}
+use Rattle.std.proofs.lemmas.List.{drop_more, get_or-map, length-map}
 use Rattle.std.specs.List.{range_with_len}
 use Rattle.std.specs.Option.{option_to_list}
 use Rattle.std.specs.Result.{result_map_both}
@@ -12,6 +13,9 @@ use Rattle.agent_core.specs.Agents.{beginning}
 use Rattle.agent_core.specs.Acts.{Act, after_act}
 use Rattle.agent_core.specs.Deciding.{value_in}
 use Rattle.agent_core.specs.Worlds.{PlainWorld, PlainEvent, Deed, start_of, agent_of, deed_of, after_deed, step, first_world, plays}
+use Rattle.nego_world.specs.declared.event.Event.TheVariants as events
+use Rattle.nego_world.specs.declared.event.EventLine.{EventLine}
+use Rattle.nego_world.specs.Events.{plain_event, plain_line, NamesAgent, NamesAgents}
 use Rattle.nego_world.specs.declared.answers.PlayFault.{PlayFault}
 use Rattle.nego_world.specs.declared.answers.PlayFault.TheVariants as fails
 use Rattle.nego_world.specs.declared.answers.StepFault.{StepFault}
@@ -68,4 +72,18 @@ module _ (diagram : PlainDiagram) (world : PlainWorld) (more : ℕ) (room : HasR
 
 -- the world at the beginning has room for 10,000 records of each agent
 pub first-room : (diagram : PlainDiagram) (start more : ℕ) → more ≤ 10000 → HasRoomFor more (first_world diagram start)
-first-room diagram start more few = All-map (λ agent. length agent.records + more ≤ 10000) (λ a. beginning diagram a (value_in diagram start a)) (range_with_len 0 (length diagram.agents)) (λ k d lt. few)
+first-room diagram start more few = All-map (λ agent. length agent.records + more ≤ 10000) (λ a. beginning diagram a (value_in diagram start a)) (range_with_len 0 (length diagram.agents)) (λ k d lt. omega (arith, few))
+
+-- a line that stands nowhere
+abbrev pub no_line : EventLine
+no_line = record { line = 0; event = events.Tell (record { 0 = 0 }) }
+
+-- the line of a place stands before those behind it
+pub at-line : (diagram : PlainDiagram) (world : PlainWorld) (items : List EventLine) (i : ℕ) → i < length items → plays diagram world (map plain_line (drop i items)) ≡ plays diagram world (plain_line (slice_index_or items i no_line) ∷ map plain_line (drop (i + 1) items))
+at-line diagram world items i lt = ap (λ xs. plays diagram world (map plain_line xs)) (drop_more items i no_line lt)
+
+-- its event names an agent of the diagram
+pub named-line : (diagram : PlainDiagram) (items : List EventLine) (i : ℕ) → NamesAgents diagram (map plain_line items) → i < length items → NamesAgent diagram (plain_event (slice_index_or items i no_line).event)
+named-line diagram items i known lt =
+    let there : i < length (map plain_line items) = omega (arith, lt, length-map items plain_line) in
+    subst (λ x. NamesAgent diagram x.1) (get_or-map plain_line items i no_line (plain_line no_line) lt) (known i (plain_line no_line) there)

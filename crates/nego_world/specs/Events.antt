@@ -4,6 +4,7 @@ use Rattle.nego_model.specs.Diagram.{PlainDiagram}
 use Rattle.agent_core.specs.Worlds.{PlainEvent, Tell, Give, Decide, Stop, GoesOn, StopsBefore, StopsAfter}
 use Rattle.nego_world.specs.declared.event.Event.{Event}
 use Rattle.nego_world.specs.declared.event.Event.TheVariants as events
+use Rattle.nego_world.specs.declared.event.EventLine.{EventLine}
 use Rattle.nego_world.specs.declared.event.Schedule.{Schedule}
 
 -- the event in plain numbers
@@ -24,9 +25,13 @@ NamesAgent diagram (Give i ending) = ⊤
 NamesAgent diagram (Decide a choice ending) = a < length diagram.agents
 NamesAgent diagram (Stop a) = a < length diagram.agents
 
+-- the event of a line, with the line
+abbrev pub plain_line : EventLine → ℕ × PlainEvent
+plain_line item = (item.line, plain_event item.event)
+
 -- the events of a schedule, each with its line
 abbrev pub plain_lines : Schedule → List (ℕ × PlainEvent)
-plain_lines schedule = map (λ item. (item.line, plain_event item.event)) schedule.events
+plain_lines schedule = map plain_line schedule.events
 
 -- Each agent that a schedule names is one of the diagram's.
 abbrev pub NamesAgents : PlainDiagram → List (ℕ × PlainEvent) → Type 0

@@ -32,10 +32,8 @@ pub fn play(
 {
     let _agents = d.agents();
     let mut world = World::new(alloc, d, start)?;
-    let mut rest = schedule.events.as_slice();
-    while let [line, behind @ ..] = rest {
+    for line in schedule.events.iter() {
         world.step_line(d, line)?;
-        rest = behind;
     }
     Ok(world)
 }
