@@ -53,9 +53,12 @@ pub deciding-is : (diagram : PlainDiagram) (agent : PlainAgent) (choice : Choice
     (n : ℕ) × (decides diagram agent choice ≡ Ok (deciding diagram agent n choice)) × (r ≡ decision_by diagram agent n choice) × (after_decision diagram agent choice ≡ after_act diagram agent (deciding diagram agent n choice))
 deciding-is diagram agent choice r h =
     let b = bind_ok (atom_to_decide diagram agent) (λ n. Ok (decision_by diagram agent n choice)) r h in
-    let one = ap {B = Result Act Undecided} (λ a. a >>= λ n. Ok (deciding diagram agent n choice)) b.1 in
-    (b.0, one, sym (same_Ok (decision_by diagram agent b.0 choice) r b.2),
-    ap (λ x. result_unwrap_or (result_map_both (after_act diagram agent) (λ why. why) x) agent) one)
+    let one = ap {B = Result Act Undecided} (λ a. a >>= λ n. Ok (deciding diagram agent n choice)) b.1 in (
+      b.0,
+      one,
+      sym (same_Ok (decision_by diagram agent b.0 choice) r b.2),
+      ap (λ x. result_unwrap_or (result_map_both (after_act diagram agent) (λ why. why) x) agent) one,
+    )
 
 -- one that doesn't decide is refused
 pub undecided-is : (diagram : PlainDiagram) (agent : PlainAgent) (choice : Choice) (why : Undecided) → decided diagram agent choice ≡ Err why → decides diagram agent choice ≡ Err why

@@ -141,7 +141,11 @@ fn after_or(r: &Record, a: AgentId, other: u16) -> u16
     ensures { result ≡ option_map_or (λ s. s.after) (share_of a.0 (shares_in (entry r.now))) other }
 {
     match r {
-        Record::Decision { parties, afters, .. } if parties.has(a) => afters[a.0 as usize],
+        Record::Decision {
+            parties,
+            afters,
+            ..
+        } if parties.has(a) => afters[a.0 as usize],
         _ => other,
     }
 }

@@ -15,12 +15,7 @@ use std::alloc::Global;
 
 /// The world that a schedule of up to 10,000 events leaves from the beginning on, or the line of the first event that is
 /// refused, and why.
-pub fn play(
-    alloc: Global,
-    d: &Diagram,
-    start: u16,
-    schedule: &Schedule,
-) -> Result<World, PlayFault>
+pub fn play(alloc: Global, d: &Diagram, start: u16, schedule: &Schedule) -> Result<World, PlayFault>
     requires deterministic { IsDeterministic (negotiation_of d.now) }
     requires start { start < data_count d.now.sizes }
     requires known { NamesAgents d.now (plain_lines schedule.now) }

@@ -29,7 +29,6 @@ impl Model for World {
     ghost Value = { PlainWorld };
 
     ghost use Rattle.nego_world.specs.WorldView.{plain_world};
-
     ghost use Rattle.std.specs.Prelude.{◌≤◌, length};
 
     ghost view = { plain_world };
