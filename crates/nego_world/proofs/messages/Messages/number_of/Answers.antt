@@ -1,4 +1,4 @@
-use Rattle.std.proofs.Common.{List, Option, None, IfNone, false, sym, ap, subst, ◌∙◌, map, slice_get}
+use Rattle.std.proofs.Common.{IfNone, sym, ap, subst, ◌∙◌, slice_get}
 use Rattle.std.specs.List.{Contains}
 use Rattle.std.specs.Option.{is_some}
 use Rattle.agent_msg.specs.Messages.{message}

@@ -1,4 +1,4 @@
-use Rattle.std.proofs.Common.{sym, arith, ◌∙◌}
+use Rattle.std.proofs.Common.{arith}
 use Rattle.agent_msg.specs.Messages.{message}
 use Rattle.agent_core.specs.Worlds.{Give, StopsBefore}
 use Rattle.nego_world.specs.Stepping.{HasStepFault}

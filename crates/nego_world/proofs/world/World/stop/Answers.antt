@@ -1,4 +1,4 @@
-use Rattle.std.proofs.Common.{map, slice_set, Ok, refl}
+use Rattle.std.proofs.Common.{map, slice_set, refl}
 use Rattle.std.proofs.lemmas.List.Elements.{All-nil}
 use Rattle.agent_msg.specs.Records.{IsTidy}
 use Rattle.agent_core.specs.Worlds.{Stop, GoesOn, deed_by, stopping}

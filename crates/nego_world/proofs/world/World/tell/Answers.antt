@@ -5,7 +5,7 @@ use Rattle.agent_msg.specs.Messages.{ReadyOf, ready_message}
 use Rattle.agent_msg.specs.Records.{IsTidy}
 use Rattle.agent_core.specs.Acts.{ready_of, telling}
 use Rattle.agent_core.specs.Worlds.{Tell, GoesOn, agent_of, deed_by, with_message}
-use Rattle.nego_world.proofs.Acting.{seen, agent-seen, place-seen, valid-seen, agents-sending, happened}
+use Rattle.nego_world.proofs.Acting.{seen, agent-seen, valid-seen, agents-sending, happened}
 use Rattle.nego_world.proofs.world.World.tell.Goals as goal
 
 pub tell-ready-requires-clause-valid : goal.tell-ready-requires-clause-valid
