@@ -1,4 +1,4 @@
-use Rattle.std.proofs.Common.{ℕ, length, map, sym, ap, ◌∙◌, rules, tests}
+use Rattle.std.proofs.Common.{ap, ◌∙◌, rules, tests}
 use Rattle.std.proofs.lemmas.Iterator.{YieldsList-from_slice}
 use Rattle.std.proofs.lemmas.Iterator.Consumers.{YieldsList-from_filter, count_from_yields_List}
 use Rattle.std.specs.Option.{is_none}
@@ -11,5 +11,5 @@ pub returns : goal.returns
 returns c =
     let test = λ (g : RoomyAgent). is_none g.plain.at in
     count_from_yields_List c.filter.result c.count.result c.count.ensures.ran
-    (YieldsList-from_filter _ test (YieldsList-from_slice c.self.inside.agents (c.iter.ensures.rest ∙ c.deref.ensures)) c.filter.ensures.closure (λ x r q k. search (rules, tests)))
+    (YieldsList-from_filter _ test (YieldsList-from_slice c.self.inside.agents cc) c.filter.ensures.closure (λ x r q k. search (rules, tests)))
     ∙ (count-plain c.self.inside.agents ∙ ap finished_count c.self.view_is)
