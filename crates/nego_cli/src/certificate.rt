@@ -41,7 +41,7 @@ pub(crate) fn print_reduction(
 
 /// The text of the certificate of the uses, and the line of the verdict.
 fn print_verdict(alloc: Global, uses: &Uses, verdict: Verdict) -> Result<Text, Memory>
-    ensures { IfOk result (λ text. text ≡ certificate_lines (map plain_use uses.now) (verdict_line verdict (length uses.now) [])) }
+    ensures { IfOk result (λ text. Appends [] text (λ rest. certificate_lines (map plain_use uses.now) (verdict_line verdict (length uses.now) rest))) }
 {
     let mut text = Text::copy(alloc, b"certificate 1\n")?;
     add_uses(&mut text, uses.as_slice())?;
