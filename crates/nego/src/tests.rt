@@ -1,8 +1,10 @@
 //! Tests of what no clause says: that calls with memory at hand answer otherwise than by want of it.
 
 mod answers;
+mod asks;
 mod calls;
 mod data;
+mod diagrams;
 mod edge;
 mod linking;
 mod naming;
@@ -14,6 +16,7 @@ mod verdicts;
 mod words;
 
 use answers::ANSWERS;
+use asks::ASKS;
 use calls::{BAD_WORDS, Call, answers};
 use refusals::{FAULTS, REFUSALS, lines_are_refused};
 use shapes::shapes_are_told;
@@ -35,6 +38,9 @@ fn calls_over_memory(rt: HostRuntime) -> Result<(), Fail> {
         answers(&rt, alloc, call, "verdict", i)?;
     }
     hub_is_undecided(&rt, alloc)?;
+    for (i, call) in ASKS.iter().enumerate() {
+        answers(&rt, alloc, call, "ask", i)?;
+    }
     for (i, call) in REFUSALS.iter().enumerate() {
         answers(&rt, alloc, call, "refusal", i)?;
     }

@@ -10,6 +10,9 @@ pub mod PartLaws
 pub mod Loaded
 pub mod OneVerdict
 pub mod Verdicts
+pub mod Undetermined
+pub mod StartLaws
+pub mod Answers
 pub mod Turns
 pub mod Found
 pub mod Ends

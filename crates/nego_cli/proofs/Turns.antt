@@ -1,29 +1,26 @@
 -- How commands end: in one way, behind as many parts as the table of parts says at most.
-use Rattle.std.proofs.Common.{◌≡◌, ◌∙◌, ⊎_elim, inl, inr, ℕ, suc, ◌+◌, ◌-◌, ◌<◌, ◌≤◌, List, [], ◌∷◌, ◌++◌, length, Some, Result, Ok, Err, refl, sym, ap, ap₂, subst, arith}
+use Rattle.std.proofs.Common.{◌≡◌, ◌∙◌, ⊎_elim, inl, inr, ℕ, suc, ◌+◌, ◌-◌, ◌≤◌, List, [], ◌∷◌, ◌++◌, length, Some, Result, Ok, Err, refl, sym, ap, subst, arith}
 use Rattle.std.specs.Prelude.{IfOk, IfErr}
 use Rattle.std.proofs.lemmas.Bool.{cases_lt}
-use Rattle.nego_base.specs.declared.ids.AgentId.{AgentId}
-use Rattle.nego_base.specs.declared.ids.OutcomeId.{OutcomeId}
-use Rattle.nego_model.specs.Diagram.{PlainDiagram, IsDiagram, nexts_of}
-use Rattle.nego_model.specs.Undetermined.{IsFirstUndetermined}
-use Rattle.nego_model.proofs.diagrams.Undetermined.{undetermined}
-use Rattle.nego_reduce.specs.Order.{IsPairBelow}
+use Rattle.nego_model.specs.Negotiation.{IsDeterministic}
+use Rattle.nego_model.specs.Diagram.{PlainDiagram, negotiation_of}
 use Rattle.nego_cli.specs.declared.answer.Answer.{Answer}
 use Rattle.nego_cli.specs.declared.command.Command.{Command}
 use Rattle.nego_cli.specs.declared.command.Command.TheVariants as commands
 use Rattle.nego_cli.specs.declared.failure.Failure.{Failure}
 use Rattle.nego_cli.specs.declared.failure.Failure.TheVariants as failures
 use Rattle.nego_cli.specs.declared.failure.Refusal.{Refusal}
-use Rattle.nego_cli.specs.declared.failure.Refusal.TheVariants as refusals
 use Rattle.nego_cli.specs.declared.status.Status.{Status}
 use Rattle.nego_cli.specs.declared.verdict.Verdict.{Verdict}
 use Rattle.nego_cli.specs.declared.verdict.Verdict.TheVariants as verdicts
 use Rattle.nego_cli.specs.Effect.{Effect}
 use Rattle.nego_cli.specs.Parts.{Read, ReadPart, ReadTooLong, ReadNoEnd, reads_at, behind_parts, TookParts}
 use Rattle.nego_cli.specs.Loading.{SpellsDiagram, IsNoDiagram, IsDiagramOf, HasValue}
-use Rattle.nego_cli.specs.Turn.{Turn, TellsText, Refuses, TurnOver, TextOver, TurnOverDiagram, TextOverDiagram}
+use Rattle.nego_cli.specs.Turn.{Turn, TellsText, Refuses, TurnHere, TurnOver, TextOver, TurnOverDiagram, TextOverDiagram}
 use Rattle.nego_cli.specs.Check.{CheckTurn, CheckText}
 use Rattle.nego_cli.specs.Reduce.{ReduceTurn, ReduceText, IsUndetermined}
+use Rattle.nego_cli.specs.Starts.{CanStart, CannotStart}
+use Rattle.nego_cli.specs.Ask.{AskTurn, AskText}
 use Rattle.nego_cli.specs.Verdict.{verdict_status}
 use Rattle.nego_cli.specs.Status.{IsTelling}
 use Rattle.nego_cli.specs.Commands.{TurnOf, TextOf, parts_of, most_parts}
@@ -31,40 +28,8 @@ use Rattle.nego_cli.specs.Refusals.{IsNamed}
 use Rattle.nego_cli.specs.Dispatch.{IsAnswer, HasNoText}
 use Rattle.nego_cli.proofs.PartLaws.{length_reads, reads_more, took_parts}
 use Rattle.nego_cli.proofs.Loaded.{IsKind, diagrams, spelled_diagram}
-
--- ---- the first place with two next atoms
-
--- it isn't behind another such place
-not_behind : (d : PlainDiagram) (o a p b : ℕ) → IsFirstUndetermined d o a → IsFirstUndetermined d p b → IsPairBelow o a p b → ⊥
-not_behind d o a p b first other below =
-    let few : length (nexts_of d o a) ≤ 1 = other.least o a first.outcome first.agent below in
-    let two : 1 < length (nexts_of d o a) = first.two in
-    let no_more : ⊥ = omega (arith, few, two) in
-    no_more
-
--- numbers of which neither is below the other are the same
-neither_below : (m n : ℕ) → (m < n → ⊥) → (n < m → ⊥) → m ≡ n
-neither_below m n low high =
-    ⊎_elim (λ l. absurd (low l)) (λ from. ⊎_elim (λ l. absurd (high l)) (λ to. omega (arith, from, to)) (cases_lt n m)) (cases_lt m n)
-
--- it is one
-first_once : (d : PlainDiagram) (o a p b : ℕ) → IsFirstUndetermined d o a → IsFirstUndetermined d p b → (o ≡ p) × (a ≡ b)
-first_once d o a p b first other =
-    let outcome : o ≡ p = neither_below o p (λ l. not_behind d o a p b first other (inl l)) (λ l. not_behind d p b o a other first (inl l)) in
-    (outcome, neither_below a b (λ l. not_behind d o a p b first other (inr (outcome, l))) (λ l. not_behind d p b o a other first (inr (sym outcome, l))))
-
-undetermined_same : (d : PlainDiagram) (o p : OutcomeId) (a b : AgentId) → (o.0 ≡ p.0) × (a.0 ≡ b.0) → refusals.Undetermined d o a ≡ refusals.Undetermined d p b
-undetermined_same d o p a b same =
-    let outcome : o ≡ p = ap (λ (n : ℕ). record { 0 = n }) same.0 in
-    let agent : a ≡ b = ap (λ (n : ℕ). record { 0 = n }) same.1 in
-    ap₂ (refusals.Undetermined d) outcome agent
-
--- why a diagram isn't deterministic is one
-undetermined_once : (d : PlainDiagram) (why other : Refusal) → IsUndetermined d why → IsUndetermined d other → why ≡ other
-undetermined_once d why other (o, a, is, first) (p, b, is', first') = is ∙ (undetermined_same d o p a b (first_once d o.0 a.0 p.0 b.0 first first') ∙ sym is')
-
-undetermined_named : (d : PlainDiagram) (why : Refusal) → IsUndetermined d why → IsNamed why
-undetermined_named d why (o, a, is, first) = subst IsNamed (sym is) (first.outcome, first.agent)
+use Rattle.nego_cli.proofs.Undetermined.{undetermined_apart, undetermined_once, undetermined_named}
+use Rattle.nego_cli.proofs.StartLaws.{can_or_cannot, cannot_once, cannot_named}
 
 -- ---- ways to end
 
@@ -87,6 +52,18 @@ Tells tells = (reads : List Read) (status : Status) (text : List ℕ) → tells 
 -- what ends behind nothing more
 none_more : (reads more : List Read) → reads ≡ [] → reads ++ more ≡ [] → more ≡ []
 none_more reads more none all = sym (ap (λ r. r ++ more) none) ∙ all
+
+-- ---- a command that reads nothing more
+
+here_once : (can : Type 0) (cannot : Refusal → Type 0) → ((why : Refusal) → can → cannot why → ⊥) → ((why other : Refusal) → cannot why → cannot other → why ≡ other) → EndsOnce (TurnHere can cannot)
+here_once can cannot apart one reads more TellsText TellsText h k = (none_more reads more h.1 k.1, refl)
+here_once can cannot apart one reads more TellsText (Refuses why) h k = absurd (apart why h.0 k.0)
+here_once can cannot apart one reads more (Refuses why) TellsText h k = absurd (apart why k.0 h.0)
+here_once can cannot apart one reads more (Refuses why) (Refuses other) h k = (none_more reads more h.1 k.1, ap Refuses (one why other h.0 k.0))
+
+here_within : (can : Type 0) (cannot : Refusal → Type 0) → EndsWithin 0 (TurnHere can cannot)
+here_within can cannot reads TellsText h = let count = ap length h.1 in omega (arith, count)
+here_within can cannot reads (Refuses why) h = let count = ap length h.1 in omega (arith, count)
 
 -- ---- a command over a part
 
@@ -146,16 +123,6 @@ check_named d reads why h = let never : Refuses why ≡ TellsText = h.0 in cc
 check_telling : (d : PlainDiagram) → Tells (CheckText d)
 check_telling d reads status text h = subst IsTelling (sym h.0) tt
 
-reduce_once : (d : PlainDiagram) → IsDiagram d → EndsOnce (ReduceTurn d)
-reduce_once d diagram reads more TellsText TellsText h k = (none_more reads more h.1 k.1, refl)
-reduce_once d diagram reads more TellsText (Refuses why) h ((o, a, is, first), all) = absurd (undetermined d diagram o.0 a.0 first.outcome first.two h.0)
-reduce_once d diagram reads more (Refuses why) TellsText ((o, a, is, first), none) k = absurd (undetermined d diagram o.0 a.0 first.outcome first.two k.0)
-reduce_once d diagram reads more (Refuses why) (Refuses other) h k = (none_more reads more h.1 k.1, ap Refuses (undetermined_once d why other h.0 k.0))
-
-reduce_within : (d : PlainDiagram) → EndsWithin 0 (ReduceTurn d)
-reduce_within d reads TellsText h = let count = ap length h.1 in omega (arith, count)
-reduce_within d reads (Refuses why) h = let count = ap length h.1 in omega (arith, count)
-
 verdict_telling : (verdict : Verdict) → IsTelling (verdict_status verdict)
 verdict_telling verdicts.Sound = tt
 verdict_telling verdicts.Unsound = tt
@@ -164,6 +131,9 @@ verdict_telling verdicts.NodeLimit = tt
 
 reduce_telling : (d : PlainDiagram) → Tells (ReduceText d)
 reduce_telling d reads status text h = subst IsTelling (sym h.status_is) (verdict_telling h.verdict)
+
+ask_telling : (values : List ℕ) (d : PlainDiagram) → Tells (AskText values d)
+ask_telling values d reads status text h = subst IsTelling (sym h.status_is) (verdict_telling h.verdict)
 
 -- a command that isn't built
 unbuilt : (command : Command) → ((reads : List Read) (turn : Turn) → TurnOf command reads turn → ⊥) → ((reads : List Read) (status : Status) (text : List ℕ) → TextOf command reads status text → ⊥) → IsCommand command
@@ -183,13 +153,20 @@ known commands.Check = record {
   telling = over_telling IsDiagramOf CheckText check_telling;
 }
 known commands.Reduce = record {
-  once = over_once SpellsDiagram IsNoDiagram ReduceTurn diagrams (λ text d spelled. reduce_once d (spelled_diagram text d spelled));
-  within = λ reads turn h. (1, refl, over_within SpellsDiagram IsNoDiagram ReduceTurn 0 reduce_within reads turn h);
+  once = over_once SpellsDiagram IsNoDiagram ReduceTurn diagrams
+      (λ text d spelled. here_once (IsDeterministic (negotiation_of d)) (IsUndetermined d) (λ why. undetermined_apart d why (spelled_diagram text d spelled)) (undetermined_once d));
+  within = λ reads turn h. (1, refl, over_within SpellsDiagram IsNoDiagram ReduceTurn 0 (λ d. here_within (IsDeterministic (negotiation_of d)) (IsUndetermined d)) reads turn h);
   named = over_named SpellsDiagram IsNoDiagram ReduceTurn diagrams (λ d reads why h. undetermined_named d why h.0);
   telling = over_telling IsDiagramOf ReduceText reduce_telling;
 }
+known (commands.Ask values) = record {
+  once = over_once SpellsDiagram IsNoDiagram (AskTurn values) diagrams
+      (λ text d spelled. here_once (CanStart d values) (CannotStart d values) (can_or_cannot d values (spelled_diagram text d spelled)) (cannot_once d values (spelled_diagram text d spelled)));
+  within = λ reads turn h. (1, refl, over_within SpellsDiagram IsNoDiagram (AskTurn values) 0 (λ d. here_within (CanStart d values) (CannotStart d values)) reads turn h);
+  named = over_named SpellsDiagram IsNoDiagram (AskTurn values) diagrams (λ d reads why h. cannot_named d values why h.0);
+  telling = over_telling IsDiagramOf (AskText values) (ask_telling values);
+}
 known commands.Replay = unbuilt commands.Replay (λ reads turn h. h) (λ reads status text h. h)
-known (commands.Ask starts) = unbuilt (commands.Ask starts) (λ reads turn h. h) (λ reads status text h. h)
 known (commands.Run starts) = unbuilt (commands.Run starts) (λ reads turn h. h) (λ reads status text h. h)
 known (commands.Node seed turns starts) = unbuilt (commands.Node seed turns starts) (λ reads turn h. h) (λ reads status text h. h)
 known (commands.Make n) = unbuilt (commands.Make n) (λ reads turn h. h) (λ reads status text h. h)

@@ -9,23 +9,27 @@ use Rattle.nego_cli.specs.Parts.{Read}
 use Rattle.nego_cli.specs.Turn.{Turn, TurnOverDiagram, TextOverDiagram}
 use Rattle.nego_cli.specs.Check.{CheckTurn, CheckText}
 use Rattle.nego_cli.specs.Reduce.{ReduceTurn, ReduceText}
+use Rattle.nego_cli.specs.Ask.{AskTurn, AskText}
 
 -- how many parts of the input a command reads at most, where it is built
 abbrev pub parts_of : Command → Option ℕ
 parts_of commands.Check = Some 1
 parts_of commands.Reduce = Some 1
+parts_of (commands.Ask values) = Some 1
 parts_of _ = None
 
 -- how a command ends behind what it has read
 abbrev pub TurnOf : Command → List Read → Turn → Type 0
 TurnOf commands.Check reads turn = TurnOverDiagram CheckTurn reads turn
 TurnOf commands.Reduce reads turn = TurnOverDiagram ReduceTurn reads turn
+TurnOf (commands.Ask values) reads turn = TurnOverDiagram (AskTurn values) reads turn
 TurnOf _ reads turn = ⊥
 
 -- which text a command tells of what it has read, and with which status
 abbrev pub TextOf : Command → List Read → Status → List ℕ → Type 0
 TextOf commands.Check reads status text = TextOverDiagram CheckText reads status text
 TextOf commands.Reduce reads status text = TextOverDiagram ReduceText reads status text
+TextOf (commands.Ask values) reads status text = TextOverDiagram (AskText values) reads status text
 TextOf _ reads status text = ⊥
 
 -- a command, where it is built

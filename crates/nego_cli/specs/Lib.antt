@@ -1,4 +1,5 @@
 pub mod Answer
+pub mod Ask
 pub mod Certificate
 pub mod Check
 pub mod CommandLine
@@ -11,7 +12,9 @@ pub mod Headline
 pub mod Loading
 pub mod Parts
 pub mod Reduce
+pub mod Reduction
 pub mod Refusals
+pub mod Starts
 pub mod Status
 pub mod Texts
 pub mod Turn

@@ -1,5 +1,5 @@
 -- What `reduce` does with a diagram.
-use Rattle.std.specs.Prelude.{◌≡◌, ℕ, List, []}
+use Rattle.std.specs.Prelude.{◌≡◌, ℕ, List}
 use Rattle.nego_base.specs.declared.ids.AgentId.{AgentId}
 use Rattle.nego_base.specs.declared.ids.OutcomeId.{OutcomeId}
 use Rattle.nego_model.specs.Negotiation.{IsDeterministic}
@@ -12,7 +12,7 @@ use Rattle.nego_cli.specs.declared.failure.Refusal.TheVariants.{Undetermined}
 use Rattle.nego_cli.specs.declared.status.Status.{Status}
 use Rattle.nego_cli.specs.declared.verdict.Verdict.{Verdict}
 use Rattle.nego_cli.specs.Parts.{Read}
-use Rattle.nego_cli.specs.Turn.{Turn, TellsText, Refuses}
+use Rattle.nego_cli.specs.Turn.{Turn, TurnHere}
 use Rattle.nego_cli.specs.Verdict.{IsReducedTo, verdict_status}
 use Rattle.nego_cli.specs.Certificate.{reduction_text}
 
@@ -22,8 +22,7 @@ IsUndetermined d why = (o : OutcomeId) × (a : AgentId) × (why ≡ Undetermined
 
 -- It takes each deterministic diagram.
 abbrev pub ReduceTurn : PlainDiagram → List Read → Turn → Type 0
-ReduceTurn d reads TellsText = IsDeterministic (negotiation_of d) × (reads ≡ [])
-ReduceTurn d reads (Refuses why) = IsUndetermined d why × (reads ≡ [])
+ReduceTurn d reads turn = TurnHere (IsDeterministic (negotiation_of d)) (IsUndetermined d) reads turn
 
 -- The text is the reduction of the diagram, and the status is that of its verdict: the certificate of the uses that are
 -- made in the order, the verdict, and the summary or the atoms of the work that they leave.

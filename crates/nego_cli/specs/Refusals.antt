@@ -15,6 +15,8 @@ use Rattle.nego_shape.specs.Answer.{AreJointIn}
 use Rattle.nego_shape.specs.Naming.{diagram_in}
 use Rattle.nego_cli.specs.declared.failure.PartName.{PartName}
 use Rattle.nego_cli.specs.declared.failure.PartName.TheVariants as parts
+use Rattle.nego_cli.specs.declared.failure.StartFault.{StartFault}
+use Rattle.nego_cli.specs.declared.failure.StartFault.TheVariants.{StartCount, StartTooLarge}
 use Rattle.nego_cli.specs.declared.failure.Refusal.{Refusal}
 use Rattle.nego_cli.specs.declared.failure.Refusal.TheVariants as refusals
 
@@ -85,6 +87,11 @@ place_words part line rest = part_name part ++ (codes " line " ++ (decimal line 
 abbrev pub fault_words : PartName → Fault → List ℕ → List ℕ
 fault_words part fault rest = place_words part fault.line (codes "column " ++ (decimal fault.column ++ (codes " " ++ (kind_name fault.kind ++ rest))))
 
+-- why start values are no start of the diagram's agents
+abbrev pub start_fault_words : PlainDiagram → StartFault → List ℕ → List ℕ
+start_fault_words d (StartCount given) rest = codes "StartCount " ++ (decimal given ++ rest)
+start_fault_words d (StartTooLarge a) rest = codes "StartTooLarge " ++ (agent_name d a.0 ++ rest)
+
 -- what is refused, and why
 abbrev pub refusal_words : Refusal → List ℕ → List ℕ
 refusal_words (refusals.TooLong part) rest = part_name part ++ (codes " TooLong" ++ rest)
@@ -92,13 +99,20 @@ refusal_words (refusals.NoEnd part line) rest = place_words part line (codes "No
 refusal_words (refusals.Off part fault) rest = fault_words part fault rest
 refusal_words (refusals.Misshapen p fault) rest = place_words parts.Diagram fault.line (shape_words (diagram_of p) fault.kind rest)
 refusal_words (refusals.Undetermined d o a) rest = codes "NotDeterministic " ++ choice_words d o.0 a.0 rest
+refusal_words (refusals.NoStart d fault) rest = start_fault_words d fault rest
 
 -- the line of a refusal
 abbrev pub refusal_line : Refusal → List ℕ
 refusal_line why = codes "refused " ++ refusal_words why (codes "\n")
 
+-- The agent that the fault names is there.
+abbrev pub IsAgentNamed : PlainDiagram → StartFault → Type 0
+IsAgentNamed d (StartCount given) = ⊤
+IsAgentNamed d (StartTooLarge a) = a.0 < length d.agents
+
 -- What the refusal names is there: joint data of the text's sizes, or an outcome and an agent of the diagram.
 abbrev pub IsNamed : Refusal → Type 0
 IsNamed (refusals.Misshapen p fault) = AreJointIn p fault.kind
 IsNamed (refusals.Undetermined d o a) = (o.0 < length d.outcomes) × (a.0 < length d.agents)
+IsNamed (refusals.NoStart d fault) = IsAgentNamed d fault
 IsNamed _ = ⊤

@@ -11,6 +11,11 @@ pub data Turn : Type 0 where
   TellsText : Turn
   Refuses : Refusal → Turn
 
+-- A command that reads nothing more tells a text where it can, and refuses for each reason for which it can't.
+abbrev pub TurnHere : Type 0 → (Refusal → Type 0) → List Read → Turn → Type 0
+TurnHere can cannot reads TellsText = can × (reads ≡ [])
+TurnHere can cannot reads (Refuses why) = cannot why × (reads ≡ [])
+
 -- A command over a part of some kind refuses what is no such part, and else does this with the value that the part spells
 -- and with what it reads behind it.
 abbrev pub TurnOver : {X : Type 0} → (List ℕ → X → Type 0) → (Read → Refusal → Type 0) → (X → List Read → Turn → Type 0) → List Read → Turn → Type 0

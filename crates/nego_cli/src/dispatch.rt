@@ -7,6 +7,7 @@ ghost use Rattle.nego_cli.specs.Answer.{IsFound};
 ghost use Rattle.nego_cli.specs.Dispatch.{IsAnswer};
 
 use crate::answer::Answer;
+use crate::ask::ask;
 use crate::check::check;
 use crate::failure::Failure;
 use crate::load::load;
@@ -31,6 +32,7 @@ fn answer<S: Source, C: Ledger>(
     match command {
         Command::Check => check(alloc, &load(alloc, source)?),
         Command::Reduce => reduce(alloc, load(alloc, source)?, steps),
+        Command::Ask(values) => ask(alloc, load(alloc, source)?, values.as_slice(), steps),
         _ => Err(Failure::Words),
     }
 }

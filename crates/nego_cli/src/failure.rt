@@ -15,6 +15,15 @@ pub enum PartName {
     Diagram,
 }
 
+/// Why start values are no start of the agents of a diagram.
+#[derive(Clone, Copy, Debug, PartialEq, Eq)]
+pub enum StartFault {
+    /// They aren't one for each agent; there are so many.
+    StartCount(usize),
+    /// They are, and this is the first agent whose value isn't below its size.
+    StartTooLarge(AgentId),
+}
+
 /// Why the input is refused, with what its line names.
 #[derive(Debug, Drop)]
 pub enum Refusal {
@@ -28,6 +37,8 @@ pub enum Refusal {
     Misshapen(Parsed, ShapeFault),
     /// The diagram isn't deterministic: after this outcome this agent has two next atoms or more.
     Undetermined(Diagram, OutcomeId, AgentId),
+    /// The start values are no start of the agents of this diagram.
+    NoStart(Diagram, StartFault),
 }
 
 /// Why there is no text.

@@ -2,6 +2,7 @@
 #![tactic(auto)]
 
 mod answer;
+mod ask;
 mod certificate;
 mod check;
 mod command;
@@ -9,12 +10,15 @@ mod deliver;
 mod dispatch;
 mod failure;
 mod form_text;
+mod joint_text;
 mod load;
 mod names;
 mod reduce;
+mod reduction;
 mod refusal_text;
 mod shape_text;
 mod splitting;
+mod starts;
 mod status;
 mod top;
 mod verdict;

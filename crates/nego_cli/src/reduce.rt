@@ -7,10 +7,9 @@ ghost use Rattle.nego_cli.specs.Reduce.{ReduceTurn, ReduceText};
 
 use crate::answer::Answer;
 use crate::certificate::print_reduction;
-use crate::failure::{Failure, Refusal};
-use crate::verdict::verdict_on;
+use crate::failure::Failure;
+use crate::reduction::{fresh_work, reduction};
 use nego_base::Steps;
-use nego_expr::{Work, WorkFault};
 use nego_model::Diagram;
 use std::alloc::Global;
 use std::sync::ledger::Ledger;
@@ -25,16 +24,9 @@ pub(crate) fn reduce<C: Ledger>(
     ensures ok { IfOk result (λ answer. ReduceText d [] answer.status answer.text) }
     ensures err { IfErr result (HasNoText (ReduceTurn d) []) }
 {
-    let work = match Work::new(alloc, &d) {
-        Ok(work) => work,
-        Err(WorkFault::NotDeterministic(o, a)) => {
-            return Err(Failure::Refused(Refusal::Undetermined(d, o, a)));
-        }
-        Err(WorkFault::Memory) => return Err(Failure::Memory),
-    };
-    let reduced = nego_reduce::reduce(alloc, work, steps)?;
-    let verdict = verdict_on(alloc, &d, &reduced)?;
-    let text = print_reduction(alloc, &d, &reduced, verdict)?;
+    let (diagram, work) = fresh_work(alloc, d)?;
+    let (reduced, verdict) = reduction(alloc, &diagram, work, steps)?;
+    let text = print_reduction(alloc, &diagram, &reduced, verdict)?;
     Ok(Answer {
         status: verdict.status(),
         text,

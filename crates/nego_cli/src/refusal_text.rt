@@ -2,12 +2,13 @@
 
 ghost use Rattle.std.specs.Prelude.{◌≡◌, IfOk, OnOk};
 ghost use Rattle.nego_base.specs.Appending.{Appends};
-ghost use Rattle.nego_cli.specs.Refusals.{IsNamed, fault_words, kind_name, part_name, place_words, refusal_words, refusal_line};
+ghost use Rattle.nego_cli.specs.Refusals.{IsAgentNamed, IsNamed, fault_words, kind_name, part_name, place_words, refusal_words, refusal_line, start_fault_words};
 
-use crate::failure::{PartName, Refusal};
+use crate::failure::{PartName, Refusal, StartFault};
 use crate::names::add_choice;
 use crate::shape_text::add_kind;
 use nego_base::{Fault, FaultKind, Memory, Text};
+use nego_model::Diagram;
 use std::alloc::Global;
 
 /// The line of the refusal.
@@ -44,7 +45,26 @@ fn add_refusal(alloc: Global, text: &mut Text, why: &Refusal) -> Result<(), Memo
             text.extend_from_slice(b"NotDeterministic ")?;
             add_choice(text, d, *o, *a)
         }
+        Refusal::NoStart(d, fault) => add_start_fault(text, d, *fault),
     }
+}
+
+/// Adds why start values are no start of the diagram's agents.
+fn add_start_fault(text: &mut Text, d: &Diagram, fault: StartFault) -> Result<(), Memory>
+    requires { IsAgentNamed d.now fault }
+    ensures { OnOk result (Appends text.old text.new (start_fault_words d.now fault)) }
+{
+    match fault {
+        StartFault::StartCount(given) => {
+            text.extend_from_slice(b"StartCount ")?;
+            text.push_decimal(given as u64)?;
+        }
+        StartFault::StartTooLarge(a) => {
+            text.extend_from_slice(b"StartTooLarge ")?;
+            text.extend_from_slice(d.agent_name(a))?;
+        }
+    }
+    Ok(())
 }
 
 /// Adds the name of a part and the number of a line.

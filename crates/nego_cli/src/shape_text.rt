@@ -1,6 +1,6 @@
 //! The words of a fault of shape.
 
-ghost use Rattle.std.specs.Prelude.{◌≡◌, ◌++◌, ◌<◌, codes, decimal, Some, None, IfOk, OnOk};
+ghost use Rattle.std.specs.Prelude.{◌≡◌, ◌++◌, ◌<◌, codes, Some, None, IfOk, OnOk};
 ghost use Rattle.nego_data.specs.Data.{data_count, split};
 ghost use Rattle.nego_data.specs.Sizes.{AreSizes};
 ghost use Rattle.nego_model.specs.Diagram.{agent_name, atom_name, outcome_name, atom_of};
@@ -10,6 +10,7 @@ ghost use Rattle.nego_shape.specs.Naming.{sizes_in};
 ghost use Rattle.nego_base.specs.Appending.{Appends};
 ghost use Rattle.nego_cli.specs.Refusals.{diagram_of, many_name, outcome_words, choice_words, value_words, shape_words};
 
+use crate::joint_text::add_joint;
 use nego_base::{AgentId, Memory, OutcomeId, Text};
 use nego_reader::Parsed;
 use nego_shape::{Many, ShapeKind, sizes_of};
@@ -91,27 +92,7 @@ fn add_values(alloc: Global, text: &mut Text, p: &Parsed, d: u16) -> Result<(), 
     requires data { d < data_count (sizes_in (content_of p.now)) }
     ensures { OnOk result (Appends text.old text.new (value_words (split (sizes_in (content_of p.now)) d))) }
 {
-    let sizes = sizes_of(alloc, p)?;
-    let values = sizes.split(d);
-    add_numbers(text, &values[..sizes.count() as usize])
-}
-
-/// Adds numbers, each behind a blank.
-fn add_numbers(text: &mut Text, numbers: &[u16]) -> Result<(), Memory>
-    ensures { OnOk result (Appends text.old text.new (value_words numbers.now)) }
-{
-    for n in numbers {
-        add_number(text, *n)?;
-    }
-    Ok(())
-}
-
-/// Adds a number behind a blank.
-fn add_number(text: &mut Text, n: u16) -> Result<(), Memory>
-    ensures { OnOk result (Appends text.old text.new (λ rest. codes " " ++ (decimal n ++ rest))) }
-{
-    text.extend_from_slice(b" ")?;
-    text.push_decimal(u64::from(n))
+    add_joint(text, &sizes_of(alloc, p)?, d)
 }
 
 /// The name of an agent, and no bytes where there is none of this number.

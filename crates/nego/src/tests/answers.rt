@@ -1,6 +1,7 @@
 //! What is told on `out`.
 
 use crate::tests::calls::{Call, PURCHASE, REDUCED};
+use crate::tests::diagrams::{FINALS, FLIP, FORK, LOOP, SET_AND_ADD, SPLIT, UNION};
 
 pub(crate) static ANSWERS: [Call; 15] = [
     REDUCED,
@@ -69,16 +70,7 @@ end
         ..REDUCED
     },
     Call {
-        input: b"nego 1
-agent a 2
-atom only a
-out flip
-case a=0 : a:=1
-case a=1 : a:=0
-first only
-last only
-end
-",
+        input: FLIP,
         out: b"certificate 1
 end
 sound uses 0
@@ -90,19 +82,7 @@ end
         ..REDUCED
     },
     Call {
-        input: b"nego 1
-agent a 4
-atom start a
-out go
-case : a:=1
-next stop a
-atom stop a
-out ok
-case : a:=a+1
-first start
-last stop
-end
-",
+        input: SET_AND_ADD,
         out: b"certificate 1
 close
 end
@@ -117,22 +97,7 @@ end
         ..REDUCED
     },
     Call {
-        input: b"nego 1
-agent a 3
-atom start a
-out zero
-case : a:=0
-next stop a
-out keep
-case :
-next stop a
-atom stop a
-out ok
-case :
-first start
-last stop
-end
-",
+        input: UNION,
         out: b"certificate 1
 merge 0 1
 close
@@ -150,21 +115,7 @@ end
         ..REDUCED
     },
     Call {
-        input: b"nego 1
-agent a 2
-atom start a
-out go
-case : a:=*
-next stop a
-atom stop a
-out accept
-case :
-out reject
-case : a:=0
-first start
-last stop
-end
-",
+        input: FINALS,
         out: b"certificate 1
 close
 end
@@ -238,30 +189,7 @@ end
     },
     Call {
         words: "check",
-        input: b"nego 1
-agent a 2
-agent b 2
-agent c 2
-atom fork a b c
-out go
-case :
-next ab a b
-next cc c
-atom ab a b
-out x
-case : a:=b b:=a
-next join a b
-atom cc c
-out y
-case : c:=1
-next join c
-atom join a b c
-out ok
-case :
-first fork
-last join
-end
-",
+        input: FORK,
         out: b"agents 3
 atoms 4
 outcomes 4
@@ -273,22 +201,7 @@ acyclic fork ab cc join
     },
     Call {
         words: "check",
-        input: b"nego 1
-agent a 4
-atom turn a
-out again
-case : a:=a+1
-next turn a
-out stop
-case :
-next end a
-atom end a
-out ok
-case :
-first turn
-last end
-end
-",
+        input: LOOP,
         out: b"agents 1
 atoms 2
 outcomes 3
@@ -300,28 +213,7 @@ cyclic turn
     },
     Call {
         words: "check",
-        input: b"nego 1
-agent a 2
-atom start a
-out go
-case :
-next p a
-next q a
-atom p a
-out o
-case :
-next end a
-atom q a
-out o
-case :
-next end a
-atom end a
-out ok
-case :
-first start
-last end
-end
-",
+        input: SPLIT,
         out: b"agents 1
 atoms 4
 outcomes 4

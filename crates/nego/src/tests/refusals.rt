@@ -1,6 +1,7 @@
 //! Lines of refusals, and faults of the streams.
 
 use crate::tests::calls::{Call, REDUCED, REFUSED, SET, answers_to};
+use crate::tests::diagrams::SPLIT;
 use nego_base::{Memory, Text};
 use std::alloc::Global;
 use std::process::Abort;
@@ -9,28 +10,7 @@ use std::test::Fail;
 /// What is refused.
 pub(crate) static REFUSALS: [Call; 14] = [
     Call {
-        input: b"nego 1
-agent a 2
-atom start a
-out go
-case :
-next p a
-next q a
-atom p a
-out o
-case :
-next end a
-atom q a
-out o
-case :
-next end a
-atom end a
-out ok
-case :
-first start
-last end
-end
-",
+        input: SPLIT,
         err: b"refused NotDeterministic start.go a\n",
         ..REFUSED
     },

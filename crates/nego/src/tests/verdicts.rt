@@ -1,6 +1,7 @@
 //! The verdicts of `reduce` on diagrams of more atoms.
 
 use crate::tests::calls::{Call, PURCHASE, REDUCED, call_over, words_in};
+use crate::tests::diagrams::{DEAD, FORK, LOOP, ROUND};
 use nego_base::{Memory, Seq, Text};
 use nego_io::{MemSink, MemSource};
 use std::alloc::Global;
@@ -11,30 +12,7 @@ use std::test::Fail;
 pub(crate) static VERDICTS: [Call; 8] = [
     // Two parties go on side by side.
     Call {
-        input: b"nego 1
-agent a 2
-agent b 2
-agent c 2
-atom fork a b c
-out go
-case :
-next ab a b
-next cc c
-atom ab a b
-out x
-case : a:=b b:=a
-next join a b
-atom cc c
-out y
-case : c:=1
-next join c
-atom join a b c
-out ok
-case :
-first fork
-last join
-end
-",
+        input: FORK,
         out: b"certificate 1
 shortcut 0 1
 shortcut 0 2
@@ -147,23 +125,7 @@ end
     // An atom to which nothing leads.
     Call {
         status: 1,
-        input: b"nego 1
-agent a 4
-atom start a
-out go
-case : a:=1
-next stop a
-atom extra a
-out x
-case :
-next stop a
-atom stop a
-out ok
-case : a:=a+1
-first start
-last stop
-end
-",
+        input: DEAD,
         out: b"certificate 1
 end
 unsound uses 0
@@ -200,22 +162,7 @@ left only
     },
     // A loop.
     Call {
-        input: b"nego 1
-agent a 4
-atom turn a
-out again
-case : a:=a+1
-next turn a
-out stop
-case :
-next end a
-atom end a
-out ok
-case :
-first turn
-last end
-end
-",
+        input: LOOP,
         out: b"certificate 1
 iterate 0
 close
@@ -236,27 +183,7 @@ end
     // Two atoms that go round for ever.
     Call {
         status: 4,
-        input: b"nego 1
-agent a 1
-atom start a
-out go
-case :
-next x a
-atom x a
-out u
-case :
-next y a
-atom y a
-out v
-case :
-next x a
-atom end a
-out ok
-case :
-first start
-last end
-end
-",
+        input: ROUND,
         out: b"certificate 1
 shortcut 0 1
 shortcut 0 2

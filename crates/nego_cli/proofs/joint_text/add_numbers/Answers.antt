@@ -5,7 +5,7 @@ use Rattle.nego_base.specs.Appending.{Appends}
 use Rattle.nego_expr.proofs.Printing.{appends_then}
 use Rattle.nego_cli.specs.Refusals.{value_words}
 use Rattle.nego_cli.proofs.NamedPlaces.{value_words-more}
-use Rattle.nego_cli.proofs.shape_text.add_numbers.Goals as goal
+use Rattle.nego_cli.proofs.joint_text.add_numbers.Goals as goal
 
 pub loop-n-preserved : goal.loop-n-preserved
 loop-n-preserved c =

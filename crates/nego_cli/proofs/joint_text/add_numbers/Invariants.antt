@@ -1,7 +1,7 @@
 use Rattle.std.proofs.Common.{take}
 use Rattle.nego_base.specs.Appending.{Appends}
 use Rattle.nego_cli.specs.Refusals.{value_words}
-use Rattle.nego_cli.proofs.shape_text.add_numbers.Given as goal
+use Rattle.nego_cli.proofs.joint_text.add_numbers.Given as goal
 
 -- the numbers so far
 abbrev pub invariant-loop-n : goal.invariant-loop-n
