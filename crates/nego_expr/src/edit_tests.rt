@@ -43,61 +43,11 @@ fn edits_follow_one_another(rt: HostRuntime) -> Result<(), Fail> {
         AtomSet::none().with(FIRST),
     );
     assert!(rt; w.alive(p) && w.node_of(p) == star && w.passed(p).has(FIRST));
-    assert!(rt; is_sorted_as(&w, &[o, p]));
     leave_last(&rt, &mut w, o);
-    assert!(rt; w.alive(p) && is_sorted_as(&w, &[p]));
+    assert!(rt; w.alive(p));
     w.drop_outcome(p);
-    assert!(rt; is_sorted_as(&w, &[]));
     assert!(rt; !w.alive(p) && w.count_of(LAST) == 0);
     Ok(())
-}
-
-/// Whether these outcomes are alive, in this order of their slots.
-fn is_sorted_as(w: &Work, outcomes: &[OutcomeId]) -> bool {
-    let slots = w.sorted();
-    slots.len() == outcomes.len()
-        && slots
-            .iter()
-            .zip(outcomes)
-            .all(|(slot, o)| slot.outcome == *o)
-}
-
-#[test]
-fn slots_rise_after_outcomes_are_added(rt: HostRuntime) -> Result<(), Fail> {
-    let alloc = rt.alloc();
-    let mut w = two_atoms(alloc)?;
-    w.room(1, 3)?;
-    let node = w.add_node(Node::Base(OutcomeId(0)));
-    let nothing = w.add_outcome(LAST, Targets::none(alloc, 1), node, AtomSet::none());
-    let ahead = w.add_outcome(FIRST, all_to(alloc, LAST), node, AtomSet::none());
-    let back = w.add_outcome(FIRST, all_to(alloc, FIRST), node, AtomSet::none());
-    assert!(rt; is_sorted_as(&w, &[back, ahead, nothing]));
-    Ok(())
-}
-
-#[test]
-fn slots_rise_after_an_outcome_changes(rt: HostRuntime) -> Result<(), Fail> {
-    let alloc = rt.alloc();
-    let mut w = two_atoms(alloc)?;
-    w.room(1, 2)?;
-    let node = w.add_node(Node::Base(OutcomeId(0)));
-    let again = w.add_outcome(FIRST, all_to(alloc, FIRST), node, AtomSet::none());
-    let back = w.add_outcome(FIRST, all_to(alloc, FIRST), node, AtomSet::none());
-    assert!(rt; is_sorted_as(&w, &[again, back]));
-    w.set_outcome(again, all_to(alloc, LAST), node, AtomSet::none());
-    assert!(rt; is_sorted_as(&w, &[back, again]));
-    w.drop_outcome(back);
-    assert!(rt; is_sorted_as(&w, &[again]));
-    w.drop_atom(FIRST);
-    assert!(rt; is_sorted_as(&w, &[]));
-    Ok(())
-}
-
-/// The targets of one agent that is sent to the atom.
-fn all_to(alloc: Global, n: AtomId) -> Targets {
-    let mut targets = Targets::none(alloc, 1);
-    targets.set(AgentId(0), n);
-    targets
 }
 
 fn leave_last(rt: &impl Abort, w: &mut Work, o: OutcomeId) {
