@@ -1,10 +1,11 @@
 -- The answers of the summary of a sound diagram are the ends of its complete runs.
-use Rattle.std.proofs.Common.{◌≡◌, ◌≢◌, ◌↔◌, ◌∙◌, ⊎_elim, inl, inr, ℕ, ◌<◌, ◌≤◌, List, [], ◌∷◌, ◌++◌, length, map, get_or, slice_get, slice_index, Option, Some, None, refl, sym, ap, subst, arith}
-use Rattle.std.specs.Prelude.{All, AllPairs, Contains, MatchOption, IsTrue}
+use Rattle.std.proofs.Common.{Bool, true, false, suc, ◌==◌, if◌then◌else◌, Result, Ok, Err, ◌⊎◌, ◌≡◌, ◌≢◌, ◌↔◌, ◌∙◌, ⊎_elim, inl, inr, ℕ, ◌+◌, ◌<◌, ◌≤◌, List, [], ◌∷◌, ◌++◌, length, map, get_or, slice_get, slice_index, Option, Some, None, refl, sym, ap, subst, arith}
+use Rattle.std.specs.Prelude.{⊤, IfOk, All, AllPairs, Contains, MatchOption, IsTrue}
 use Rattle.std.specs.List.{range_with_len}
 use Rattle.std.proofs.lemmas.Bool.{cases_lt, lt-ltb}
 use Rattle.std.proofs.lemmas.List.{length-map, get_or-map, get_or_default}
 use Rattle.std.proofs.lemmas.List.Elements.{All-weaker, Contains-get_or}
+use Rattle.std.proofs.lemmas.List.FromFn.{get_or-range_with_len, length-range_with_len}
 use Rattle.std.proofs.lemmas.List.Kept.{AllPairs-from_increasing}
 use Rattle.std.proofs.lemmas.Option.{get_or_from_slice_get, slice_get-get_or, slice_get_past}
 use Rattle.nego_base.specs.Members.{is_in}
@@ -18,7 +19,7 @@ use Rattle.nego_model.specs.Negotiation.{IsDeterministic}
 use Rattle.nego_model.specs.Occurring.{opening_marking, final_marking, leaves}
 use Rattle.nego_model.specs.Joining.{Entry, steps_of, By, Runs}
 use Rattle.nego_model.specs.Expression.{PlainNode, Base, Join, Then, Star, Means, NodeBases}
-use Rattle.nego_model.specs.Diagram.{PlainDiagram, IsDiagram, negotiation_of, relation_of, outcome_name}
+use Rattle.nego_model.specs.Diagram.{PlainOutcome, PlainDiagram, IsDiagram, negotiation_of, relation_of, outcome_name, outcomes_from}
 use Rattle.nego_model.specs.Summary.{PlainFinal, PlainSummary, final_outcomes, Tells}
 use Rattle.nego_model.proofs.diagrams.Readers.{own_outcome}
 use Rattle.nego_model.proofs.expressions.Acting.{Means-acts}
@@ -27,7 +28,16 @@ use Rattle.nego_model.proofs.occurrence.Histories.{joint_after-below}
 use Rattle.nego_model.proofs.occurrence.Ways.{runs_pass_all_at_last}
 use Rattle.nego_eval.specs.Answers.{IsAnswer, ComesBefore, AreAnswers}
 use Rattle.nego_eval.proofs.Answering.{answer_means}
-use Rattle.nego_cli.specs.Ask.{AreEnds, IsAnswerIn, answer_line, lines_of_answers, numbered}
+use Rattle.nego_expr.specs.UseView.{plain_use}
+use Rattle.nego_expr.specs.declared.uses.Use.{Use}
+use Rattle.nego_expr.specs.Room.{RoomyWork}
+use Rattle.nego_reduce.specs.declared.reduced.Reduced.{Reduced}
+use Rattle.nego_reduce.specs.declared.reduced.Reduced.TheVariants as reduced
+use Rattle.nego_reduce.specs.Reducing.{uses_of}
+use Rattle.nego_cli.specs.declared.verdict.Verdict.{Verdict}
+use Rattle.nego_cli.specs.declared.verdict.Verdict.TheVariants.{Sound, Unsound, Stuck, NodeLimit}
+use Rattle.nego_cli.specs.Verdict.{IsVerdictOn, verdict_line}
+use Rattle.nego_cli.specs.Ask.{AreEnds, IsAnswerIn, IsAnswerTo, answer_line, answer_lines, lines_of_answers, numbered}
 
 -- what stands at a place
 there_at : {X : Type 0} (xs : List X) (i : ℕ) → i < length xs → (x : X) × (slice_get xs i ≡ Some x)
@@ -36,7 +46,7 @@ there_at (x ∷ xs) i h = (get_or (x ∷ xs) i x, slice_get-get_or (x ∷ xs) i 
 
 module _ (d : PlainDiagram) (diagram : IsDiagram d) where
   -- all agents
-  everyone : List ℕ
+  abbrev everyone : List ℕ
   everyone = range_with_len 0 (length d.agents)
 
   -- an outcome acts on agents
@@ -72,7 +82,7 @@ module _ (d : PlainDiagram) (diagram : IsDiagram d) where
 
     -- ---- each answer
 
-    as_many : length summary.finals ≡ length (final_outcomes d)
+    pub as_many : length summary.finals ≡ length (final_outcomes d)
     as_many = sym (length-map summary.finals (λ outcome. outcome.name)) ∙ (ap length tells.named ∙ length-map (final_outcomes d) (outcome_name d))
 
     -- the node at a place
@@ -138,8 +148,7 @@ module _ (d : PlainDiagram) (diagram : IsDiagram d) where
       end_is : (f e : ℕ) → Runs (negotiation_of d) (By (relation_of d)) f start e → Contains (map (numbered d) answers) (f, e)
       end_is f e r =
           let at = place_of f e r in
-          let there = (all.each at.0 e).1 (runs_answer at.0 at.1 e (subst (λ o. Runs (negotiation_of d) (By (relation_of d)) o start e) (sym at.2) r)) in
-          (
+          let there = (all.each at.0 e).1 (runs_answer at.0 at.1 e (subst (λ o. Runs (negotiation_of d) (By (relation_of d)) o start e) (sym at.2) r)) in (
             there.0,
             subst (λ n. there.0 < n) (sym (length-map answers (numbered d))) there.1,
             get_or-map (numbered d) answers there.0 (at.0, e) (f, e) there.1 ∙ (ap (numbered d) there.2 ∙ ap (λ o. (o, e)) at.2),
@@ -162,3 +171,51 @@ module _ (d : PlainDiagram) (diagram : IsDiagram d) where
 pub lines_of_answers-more : (d : PlainDiagram) (answers : List (ℕ × ℕ)) (last : ℕ × ℕ) (rest : List ℕ) → lines_of_answers d (answers ++ last ∷ []) rest ≡ lines_of_answers d answers (answer_line d last rest)
 lines_of_answers-more d [] last rest = refl
 lines_of_answers-more d (first ∷ answers) last rest = ap (answer_line d first) (lines_of_answers-more d answers last rest)
+
+-- the number of the final outcome at a place, where they follow one another
+pub number_at : (d : PlainDiagram) (start count place n : ℕ) → n ≡ d.last → range_with_len start count ≡ outcomes_from 0 d.outcomes n → place < length (final_outcomes d) →
+    (place < count) × (start + place ≡ slice_index (final_outcomes d) place)
+number_at d start count place n is numbers there =
+    let same : range_with_len start count ≡ final_outcomes d = numbers ∙ ap (outcomes_from 0 d.outcomes) is in
+    let below : place < count = subst (λ k. place < k) (sym (ap length same) ∙ length-range_with_len start count) there in
+    (below, sym (get_or-range_with_len start count place 0 below) ∙ ap (λ os. slice_index os place) same)
+
+few_from : (b : Bool) (o : ℕ) (os : List ℕ) (m : ℕ) → length os ≤ m → length (if b then o ∷ os else os) ≤ suc m
+few_from true o os m h = omega (arith, h)
+few_from false o os m h = omega (arith, h)
+
+-- an atom has no more outcomes than there are
+pub few_outcomes : (o : ℕ) (outcomes : List PlainOutcome) (n : ℕ) → length (outcomes_from o outcomes n) ≤ length outcomes
+few_outcomes o [] n = omega arith
+few_outcomes o (outcome ∷ outcomes) n = few_from (outcome.atom == n) o (outcomes_from (o + 1) outcomes n) (length outcomes) (few_outcomes (o + 1) outcomes n)
+
+-- ---- what is told
+
+-- the answers of a sound diagram are told
+pub answers_told : {E : Type 0} (d : PlainDiagram) (start count : ℕ) (verdict : Verdict) (answers : List (ℕ × ℕ)) (r : Result (List ℕ) E) → verdict ≡ Sound → AreEnds d start answers →
+    IfOk r (λ text. text ≡ answer_lines d answers) → IfOk r (IsAnswerTo d start count verdict)
+answers_told d start count verdict answers (Ok text) is ends e = subst (λ v. IsAnswerTo d start count v text) (sym is) (answers, ends, e)
+answers_told d start count verdict answers (Err fault) is ends e = tt
+
+-- and the verdict on another
+told_verdict : (d : PlainDiagram) (start count : ℕ) (verdict other : Verdict) (text : List ℕ) → verdict ≡ other → (text ≡ verdict_line other count [] → IsAnswerTo d start count other text) → text ≡ verdict_line verdict count [] →
+    IsAnswerTo d start count verdict text
+told_verdict d start count verdict other text is told e = subst (λ v. IsAnswerTo d start count v text) (sym is) (told (subst (λ v. text ≡ verdict_line v count []) is e))
+
+left_told : (d : PlainDiagram) (start : ℕ) (left : RoomyWork) (uses : List Use) (r : Reduced) (verdict : Verdict) (text : List ℕ) → IsVerdictOn d r verdict → (r ≡ reduced.Stuck left uses) ⊎ (r ≡ reduced.NodeLimit left uses) →
+    text ≡ verdict_line verdict (length (uses_of r)) [] → IsAnswerTo d start (length (uses_of r)) verdict text
+left_told d start left uses r verdict text on (inl is) e = stuck (subst (λ x. IsVerdictOn d x verdict) is on)
+  where
+    stuck : IsVerdictOn d (reduced.Stuck left uses) verdict → IsAnswerTo d start (length (uses_of r)) verdict text
+    stuck (inl (v, acyclic)) = told_verdict d start (length (uses_of r)) verdict Unsound text v (λ t. t) e
+    stuck (inr (v, cyclic)) = told_verdict d start (length (uses_of r)) verdict Stuck text v (λ t. t) e
+left_told d start left uses r verdict text on (inr is) e = told_verdict d start (length (uses_of r)) verdict NodeLimit text (subst (λ x. IsVerdictOn d x verdict) is on) (λ t. t) e
+
+pub verdict_told : {E : Type 0} (d : PlainDiagram) (start : ℕ) (left : RoomyWork) (uses : List Use) (r : Reduced) (verdict : Verdict) (result : Result (List ℕ) E) → IsVerdictOn d r verdict → (r ≡ reduced.Stuck left uses) ⊎ (r ≡ reduced.NodeLimit left uses) →
+    IfOk result (λ text. text ≡ verdict_line verdict (length uses) []) → IfOk result (IsAnswerTo d start (length (uses_of r)) verdict)
+verdict_told d start left uses r verdict (Ok text) on is e = left_told d start left uses r verdict text on is (e ∙ ap (λ n. verdict_line verdict n []) (sym (count is)))
+  where
+    count : (r ≡ reduced.Stuck left uses) ⊎ (r ≡ reduced.NodeLimit left uses) → length (uses_of r) ≡ length uses
+    count (inl same) = ap (λ x. length (uses_of x)) same ∙ length-map uses plain_use
+    count (inr same) = ap (λ x. length (uses_of x)) same ∙ length-map uses plain_use
+verdict_told d start left uses r verdict (Err fault) on is e = tt

@@ -44,19 +44,19 @@ module _ (d : PlainDiagram) (values : List ℕ) where
     -- agents that can start have no reason why they can't
     pub can_or_cannot : (why : Refusal) → CanStart d values → CannotStart d values why → ⊥
     can_or_cannot why can (inl h) = undetermined_apart d why diagram can.0 h
-    can_or_cannot why can (inr (determined, fault, is, none)) =
+    can_or_cannot why can (inr (determined, (fault, is, none))) =
         let never : Ok can.1.0 ≡ Err fault = one_start (Ok can.1.0) (Err fault) can.1.1 none in
         cc
 
     same_fault : (fault other : StartFault) → StartsAt d values (Err fault) → StartsAt d values (Err other) → fault ≡ other
-    same_fault fault other h k = let same : Result.Err {ℕ} fault ≡ Err other = one_start (Err fault) (Err other) h k in cc
+    same_fault fault other h k = let same : ◌≡◌ {A = Result ℕ StartFault} (Err fault) (Err other) = one_start (Err fault) (Err other) h k in cc
 
     -- the reason why they can't is one
     pub cannot_once : (why other : Refusal) → CannotStart d values why → CannotStart d values other → why ≡ other
     cannot_once why other (inl h) (inl k) = undetermined_once d why other h k
     cannot_once why other (inl h) (inr k) = absurd (undetermined_apart d why diagram k.0 h)
     cannot_once why other (inr h) (inl k) = absurd (undetermined_apart d other diagram h.0 k)
-    cannot_once why other (inr (determined, fault, is, none)) (inr (determined', fault', is', none')) = is ∙ (ap (NoStart d) (same_fault fault fault' none none') ∙ sym is')
+    cannot_once why other (inr (determined, (fault, is, none))) (inr (determined', (fault', is', none'))) = is ∙ (ap (NoStart d) (same_fault fault fault' none none') ∙ sym is')
 
   named_there : (fault : StartFault) → StartsAt d values (Err fault) → IsAgentNamed d fault
   named_there (StartCount given) h = tt
@@ -65,4 +65,4 @@ module _ (d : PlainDiagram) (values : List ℕ) where
   -- what it names is there
   pub cannot_named : (why : Refusal) → CannotStart d values why → IsNamed why
   cannot_named why (inl h) = undetermined_named d why h
-  cannot_named why (inr (determined, fault, is, none)) = subst IsNamed (sym is) (named_there fault none)
+  cannot_named why (inr (determined, (fault, is, none))) = subst IsNamed (sym is) (named_there fault none)

@@ -9,6 +9,8 @@ use Rattle.nego_expr.specs.Fresh.{fresh_work}
 use Rattle.nego_expr.specs.Finish.{summary_of_work}
 use Rattle.nego_expr.specs.StandsFor.{IsFresh, StandsFor}
 use Rattle.nego_expr.specs.UseView.{plain_use}
+use Rattle.nego_expr.specs.declared.summary.Summary.{Summary}
+use Rattle.nego_expr.specs.declared.uses.Use.{Use}
 use Rattle.nego_expr.specs.SummaryText.{plain_summary, summary_text}
 use Rattle.nego_reduce.specs.declared.reduced.Reduced.{Reduced}
 use Rattle.nego_reduce.specs.declared.reduced.Reduced.TheVariants as reduced
@@ -35,24 +37,28 @@ judged_fresh d (reduced.One summary uses) verdict stands fresh ((end, leads, don
     let plain = plain_summary summary in
     let tells : Tells plain d = reduced_tells d (fresh_work d) (map plain_use uses) plain fresh.diagram_read stands (end, leads, done, e) in
     record {
+      fresh = fresh;
       left = end;
       leaves = e;
       reduced = record { leads = leads; few = few; is_verdict = subst (IsVerdict d end) (sym is) (done, subst (λ s. Tells s d) e tells) };
       on = is;
     }
 judged_fresh d (reduced.Stuck left uses) verdict stands fresh ((leads, stuck), few, decided) (inl (is, acyclic)) = record {
+  fresh = fresh;
   left = left.plain;
   leaves = refl;
   reduced = record { leads = leads; few = few; is_verdict = subst (IsVerdict d left.plain) (sym is) (stuck, acyclic, λ sound. (decided acyclic).0.1 sound) };
   on = inl (is, acyclic);
 }
 judged_fresh d (reduced.Stuck left uses) verdict stands fresh ((leads, stuck), few, decided) (inr (is, cyclic)) = record {
+  fresh = fresh;
   left = left.plain;
   leaves = refl;
   reduced = record { leads = leads; few = few; is_verdict = subst (IsVerdict d left.plain) (sym is) (stuck, cyclic) };
   on = inr (is, cyclic);
 }
 judged_fresh d (reduced.NodeLimit left uses) verdict stands fresh ((leads, full), few, decided) is = record {
+  fresh = fresh;
   left = left.plain;
   leaves = refl;
   reduced = record { leads = leads; few = few; is_verdict = subst (IsVerdict d left.plain) (sym is) (full, λ acyclic. (decided acyclic).1 tt) };
@@ -82,3 +88,9 @@ reduction_told d r verdict h = record {
   status_is = refl;
   printed = ap (λ text. certificate_lines (uses_of r) (verdict_line verdict (length (uses_of r)) text)) (same_leftover d r h.left verdict h.leaves h.on);
 }
+
+-- of one atom that is left the summary tells the diagram
+pub one_tells : (d : PlainDiagram) (summary : Summary) (uses : List Use) (r : Reduced) (verdict : Verdict) → r ≡ reduced.One summary uses → IsJudged d r verdict → (verdict ≡ verdicts.Sound) × Tells (plain_summary summary) d
+one_tells d summary uses r verdict is h =
+    let j : IsJudged d (reduced.One summary uses) verdict = subst (λ x. IsJudged d x verdict) is h in
+    (j.on, subst (λ s. Tells s d) (sym j.leaves) (subst (IsVerdict d j.left) j.on j.reduced.is_verdict).1)

@@ -2,6 +2,8 @@
 use Rattle.std.specs.Prelude.{◌≡◌, ⊤}
 use Rattle.nego_model.specs.Diagram.{PlainDiagram}
 use Rattle.nego_expr.specs.Work.{PlainWork}
+use Rattle.nego_expr.specs.Fresh.{fresh_work}
+use Rattle.nego_expr.specs.StandsFor.{IsFresh}
 use Rattle.nego_expr.specs.Finish.{summary_of_work}
 use Rattle.nego_expr.specs.SummaryText.{plain_summary}
 use Rattle.nego_reduce.specs.declared.reduced.Reduced.{Reduced}
@@ -25,8 +27,9 @@ Leaves (One summary uses) left = plain_summary summary ≡ summary_of_work left
 Leaves (Stuck work uses) left = work.plain ≡ left
 Leaves (NodeLimit work uses) left = work.plain ≡ left
 
--- Reduction made this of the diagram's fresh work, and this is the verdict on the diagram.
+-- The diagram is deterministic, reduction made this of its fresh work, and this is the verdict on the diagram.
 pub record IsJudged (d : PlainDiagram) (r : Reduced) (verdict : Verdict) : Type 0 where
+  pub fresh : IsFresh (fresh_work d) d
   pub left : PlainWork
   pub leaves : Leaves r left
   pub reduced : IsReducedTo d (uses_of r) left verdict

@@ -9,6 +9,7 @@ ghost use Rattle.nego_cli.specs.Ask.{AskTurn, AskText, IsAnswerTo, IsAnswerIn, a
 ghost use Rattle.nego_cli.specs.Dispatch.{HasNoText};
 ghost use Rattle.nego_cli.specs.Reduction.{IsJudged};
 ghost use Rattle.nego_cli.specs.Turn.{TellsText};
+ghost use Rattle.nego_cli.specs.Verdict.{verdict_line};
 
 use crate::answer::Answer;
 use crate::failure::{Failure, Refusal};
@@ -63,12 +64,18 @@ fn print_answer(
             let answers = nego_eval::ask(alloc, d, summary, start)?;
             print_answers(alloc, d, answers.as_slice())
         }
-        Reduced::Stuck(_, uses) | Reduced::NodeLimit(_, uses) => {
-            let mut text = Text::new(alloc);
-            verdict.add_line(&mut text, uses.len())?;
-            Ok(text)
-        }
+        Reduced::Stuck(_, uses) => print_verdict(alloc, verdict, uses.len()),
+        Reduced::NodeLimit(_, uses) => print_verdict(alloc, verdict, uses.len()),
     }
+}
+
+/// The line of the verdict alone.
+fn print_verdict(alloc: Global, verdict: Verdict, uses: usize) -> Result<Text, Memory>
+    ensures { IfOk result (λ text. text ≡ verdict_line verdict uses []) }
+{
+    let mut text = Text::new(alloc);
+    verdict.add_line(&mut text, uses)?;
+    Ok(text)
 }
 
 /// The text of answers, each the place of a final outcome and joint data.

@@ -1,5 +1,7 @@
 //! The start values of a diagram's agents.
 
+ghost use Rattle.std.specs.Prelude.{◌<◌, IfOk};
+ghost use Rattle.nego_data.specs.Data.{data_count};
 ghost use Rattle.nego_cli.specs.Starts.{StartsAt};
 
 use crate::failure::StartFault;
@@ -8,7 +10,8 @@ use nego_model::Diagram;
 
 /// The joint data that the values are, where they are one for each agent and each is below its agent's size.
 pub(crate) fn start_of(d: &Diagram, values: &[u32]) -> Result<u16, StartFault>
-    ensures { StartsAt d.now values.now result }
+    ensures at { StartsAt d.now values.now result }
+    ensures in_range { IfOk result (λ start. start < data_count d.now.sizes) }
 {
     if values.len() != d.agents() as usize {
         return Err(StartFault::StartCount(values.len()));

@@ -1,9 +1,7 @@
 //! The answers of `ask`.
 
 use crate::tests::calls::{Call, PURCHASE, REDUCED, REFUSED};
-use crate::tests::diagrams::{
-    DEAD, FINALS, FLIP, FORK, LOOP, ROUND, SET_AND_ADD, SPLIT, UNION,
-};
+use crate::tests::diagrams::{DEAD, FINALS, FLIP, FORK, LOOP, ROUND, SET_AND_ADD, SPLIT, UNION};
 
 const ASKED: Call = Call {
     words: "ask 0",

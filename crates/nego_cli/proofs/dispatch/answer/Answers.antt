@@ -25,7 +25,8 @@ returns-in_ok-load-in-Reduce-clause-found g c =
 pub returns-in_ok-load-in-Ask-clause-found : goal.returns-in_ok-load-in-Ask-clause-found
 returns-in_ok-load-in-Ask-clause-found g c =
     let source = effect g.S.Source.left g.S.Source.faults c.args.source.now c.load-in-Ask.new.source in
-    let values = c.in-Ask.values.now in
-    subst (λ command. IsAnswer command source c.ask.result) (sym c.in-Ask.is)
-    (answered (commands.Ask values) (AskTurn values) (AskText values) (λ reads turn h. h) (λ reads status text h. h) refl source c.in_ok-load-in-Ask.field-0 c.ask.result
-    c.in_ok-load-in-Ask.ensures.ok c.ask.ensures.turn c.ask.ensures.ok c.ask.ensures.err)
+    let values = c.as_slice.result.now in
+    let answer : IsAnswer (commands.Ask values) source c.ask.result =
+    answered (commands.Ask values) (AskTurn values) (AskText values) (λ reads turn h. h) (λ reads status text h. h) refl source c.in_ok-load-in-Ask.field-0 c.ask.result
+    c.in_ok-load-in-Ask.ensures.ok c.ask.ensures.turn c.ask.ensures.ok c.ask.ensures.err in
+    subst (λ command. IsAnswer command source c.ask.result) (sym c.in-Ask.is) (subst (λ v. IsAnswer (commands.Ask v) source c.ask.result) c.as_slice.ensures answer)
