@@ -1,6 +1,6 @@
 -- The answers of the summary of a sound diagram are the ends of its complete runs.
-use Rattle.std.proofs.Common.{Bool, true, false, suc, ◌==◌, if◌then◌else◌, Result, Ok, Err, ◌⊎◌, ◌≡◌, ◌≢◌, ◌↔◌, ◌∙◌, ⊎_elim, inl, inr, ℕ, ◌+◌, ◌<◌, ◌≤◌, List, [], ◌∷◌, ◌++◌, length, map, get_or, slice_get, slice_index, Option, Some, None, refl, sym, ap, subst, arith}
-use Rattle.std.specs.Prelude.{⊤, IfOk, All, AllPairs, Contains, MatchOption, IsTrue}
+use Rattle.std.proofs.Common.{Bool, true, false, suc, ◌==◌, if◌then◌else◌, Result, Ok, Err, ◌⊎◌, ◌≡◌, ◌↔◌, ◌∙◌, ⊎_elim, inl, inr, ℕ, ◌+◌, ◌<◌, ◌≤◌, List, [], ◌∷◌, ◌++◌, length, map, get_or, slice_get, slice_index, Some, refl, sym, ap, subst, arith}
+use Rattle.std.specs.Prelude.{⊤, IfOk, All, Contains, MatchOption}
 use Rattle.std.specs.List.{range_with_len}
 use Rattle.std.proofs.lemmas.Bool.{cases_lt, lt-ltb}
 use Rattle.std.proofs.lemmas.List.{length-map, get_or-map, get_or_default}
@@ -8,7 +8,6 @@ use Rattle.std.proofs.lemmas.List.Elements.{All-weaker, Contains-get_or}
 use Rattle.std.proofs.lemmas.List.FromFn.{get_or-range_with_len, length-range_with_len}
 use Rattle.std.proofs.lemmas.List.Kept.{AllPairs-from_increasing}
 use Rattle.std.proofs.lemmas.Option.{get_or_from_slice_get, slice_get-get_or, slice_get_past}
-use Rattle.nego_base.specs.Members.{is_in}
 use Rattle.nego_base.proofs.Members.{Contains-member, increasing_from_rising, is_in-range_zero}
 use Rattle.nego_base.proofs.ListLaws.{mapped_at}
 use Rattle.nego_base.proofs.PairLaws.{AllPairs-map}
@@ -17,7 +16,7 @@ use Rattle.nego_data.specs.Locality.{ActsOn}
 use Rattle.nego_data.proofs.Acting.{ActsOn-more}
 use Rattle.nego_model.specs.Negotiation.{IsDeterministic}
 use Rattle.nego_model.specs.Occurring.{opening_marking, final_marking, leaves}
-use Rattle.nego_model.specs.Joining.{Entry, steps_of, By, Runs}
+use Rattle.nego_model.specs.Joining.{steps_of, By, Runs}
 use Rattle.nego_model.specs.Expression.{PlainNode, Base, Join, Then, Star, Means, NodeBases}
 use Rattle.nego_model.specs.Diagram.{PlainOutcome, PlainDiagram, IsDiagram, negotiation_of, relation_of, outcome_name, outcomes_from}
 use Rattle.nego_model.specs.Summary.{PlainFinal, PlainSummary, final_outcomes, Tells}

@@ -14,11 +14,11 @@ use Rattle.nego_cli.specs.declared.status.Status.{Status}
 use Rattle.nego_cli.specs.declared.status.Status.TheVariants as statuses
 use Rattle.nego_cli.specs.Status.{IsTelling}
 use Rattle.nego_cli.specs.Effect.{Effect, HasFaulted, Put}
-use Rattle.nego_cli.specs.Parts.{Read, Reads, reads_at, HasRead, TakesParts, TookParts}
+use Rattle.nego_cli.specs.Parts.{Read, Reads, reads_at, TakesParts, TookParts}
 use Rattle.nego_cli.specs.Turn.{Turn, TellsText, Refuses}
 use Rattle.nego_cli.specs.Commands.{TurnOf, TextOf, asked, Asks, most_parts}
 use Rattle.nego_cli.specs.Delivery.{IsDelivered, IsFailurePut, IsLinePut}
-use Rattle.nego_cli.specs.Answer.{failure_line, failure_status, IsTold, IsRefused, HasFailed, IsFound, TextStands, Says, ShowsLine, ShowsText, FailsToRead}
+use Rattle.nego_cli.specs.Answer.{failure_line, failure_status, IsRefused, HasFailed, IsFound, TextStands, Says, ShowsLine, ShowsText, FailsToRead}
 use Rattle.nego_cli.proofs.PartLaws.{took_parts}
 use Rattle.nego_cli.proofs.Turns.{parts_within, one_turn, text_telling}
 

@@ -10,9 +10,7 @@ use Rattle.nego_model.specs.Diagram.{PlainDiagram, negotiation_of}
 use Rattle.nego_expr.specs.Work.{PlainWork}
 use Rattle.nego_expr.specs.Use.{PlainUse}
 use Rattle.nego_expr.specs.Finish.{summary_of_work}
-use Rattle.nego_cli.specs.declared.answer.Answer.{Answer}
 use Rattle.nego_cli.specs.declared.command.Command.TheVariants as commands
-use Rattle.nego_cli.specs.declared.failure.Failure.{Failure}
 use Rattle.nego_cli.specs.declared.status.Status.{Status}
 use Rattle.nego_cli.specs.declared.status.Status.TheVariants as statuses
 use Rattle.nego_cli.specs.declared.verdict.Verdict.{Verdict}
@@ -24,7 +22,7 @@ use Rattle.nego_cli.specs.Turn.{TellsText, Refuses}
 use Rattle.nego_cli.specs.Commands.{TurnOf, TextOf, Asks}
 use Rattle.nego_cli.specs.Verdict.{IsReducedTo, IsVerdict, verdict_status}
 use Rattle.nego_cli.specs.Certificate.{reduction_text}
-use Rattle.nego_cli.specs.Answer.{IsTold, TextStands, Says, ShowsText, FailsToRead}
+use Rattle.nego_cli.specs.Answer.{TextStands, Says, ShowsText, FailsToRead}
 use Rattle.nego_cli.specs.Headline.{Headline, SaysSound, IsHindered}
 use Rattle.nego_cli.proofs.Loaded.{diagrams}
 use Rattle.nego_cli.proofs.Ends.{IsTextShown}

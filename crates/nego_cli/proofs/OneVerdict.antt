@@ -1,5 +1,5 @@
 -- A diagram has one verdict: the uses of the order lead to one work that stops them, and this has one verdict.
-use Rattle.std.proofs.Common.{◌≡◌, ◌⊎◌, ◌∙◌, inl, inr, ⊎_elim, ◌<◌, ◌≤◌, List, [], ◌∷◌, length, refl, sym, ap, subst, arith}
+use Rattle.std.proofs.Common.{◌≡◌, ◌⊎◌, ◌∙◌, inl, inr, ◌<◌, ◌≤◌, List, [], ◌∷◌, length, refl, sym, ap, subst, arith}
 use Rattle.nego_model.specs.Diagram.{PlainDiagram}
 use Rattle.nego_expr.specs.Work.{PlainWork}
 use Rattle.nego_expr.specs.Use.{PlainUse, after_use, most_nodes}
@@ -10,7 +10,7 @@ use Rattle.nego_reduce.specs.Reducing.{IsFull}
 use Rattle.nego_reduce.proofs.NextUses.{next_one}
 use Rattle.nego_cli.specs.declared.verdict.Verdict.{Verdict}
 use Rattle.nego_cli.specs.declared.verdict.Verdict.TheVariants as verdicts
-use Rattle.nego_cli.specs.Verdict.{IsVerdict, IsReducedTo, VerdictsAreOne}
+use Rattle.nego_cli.specs.Verdict.{IsVerdict, VerdictsAreOne}
 
 -- The order stops at the work: no use is the next one, or the next one makes too many nodes.
 abbrev Stops : PlainWork → Type 0

@@ -5,7 +5,7 @@ use Rattle.nego_io.specs.Part.{behind}
 use Rattle.nego_io.specs.Outside.{WhereTold}
 use Rattle.nego_io.proofs.BehindLaws.{within}
 use Rattle.nego_io.proofs.OutsideLaws.{told_so, told_then}
-use Rattle.nego_cli.specs.Effect.{Effect, effect, Stayed, HasFaulted}
+use Rattle.nego_cli.specs.Effect.{Effect, effect, HasFaulted}
 use Rattle.nego_cli.specs.Parts.{Read, part_limit, read_at, reads_at, behind_parts, Reads, HasRead, TakesParts, TookParts}
 
 -- ---- what is read

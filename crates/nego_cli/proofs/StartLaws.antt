@@ -1,5 +1,5 @@
 -- Start values are told in one way: as joint data, or as a fault.
-use Rattle.std.proofs.Common.{◌≡◌, ◌∙◌, inl, inr, ℕ, ◌<◌, ◌≤◌, List, length, Result, Ok, Err, refl, sym, ap, subst, slice_index, arith}
+use Rattle.std.proofs.Common.{◌≡◌, ◌∙◌, inl, inr, ℕ, ◌<◌, ◌≤◌, List, length, Result, Ok, Err, sym, ap, subst, slice_index, arith}
 use Rattle.nego_base.specs.declared.ids.AgentId.{AgentId}
 use Rattle.nego_model.specs.Diagram.{PlainDiagram, IsDiagram}
 use Rattle.nego_cli.specs.declared.failure.StartFault.{StartFault}

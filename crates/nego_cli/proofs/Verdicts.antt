@@ -1,12 +1,10 @@
 -- What reduction makes of a diagram's fresh work, and its text.
 use Rattle.std.proofs.Common.{◌≡◌, ◌∙◌, inl, inr, ℕ, List, [], length, map, refl, sym, ap, subst}
-use Rattle.nego_model.specs.Occurring.{IsSound}
 use Rattle.nego_model.specs.Acyclic.{IsAcyclic}
 use Rattle.nego_model.specs.Diagram.{PlainDiagram, negotiation_of}
 use Rattle.nego_model.specs.Summary.{Tells}
 use Rattle.nego_expr.specs.Work.{PlainWork}
 use Rattle.nego_expr.specs.Fresh.{fresh_work}
-use Rattle.nego_expr.specs.Finish.{summary_of_work}
 use Rattle.nego_expr.specs.StandsFor.{IsFresh, StandsFor}
 use Rattle.nego_expr.specs.UseView.{plain_use}
 use Rattle.nego_expr.specs.declared.summary.Summary.{Summary}

@@ -1,5 +1,4 @@
-use Rattle.std.proofs.Common.{◌≡◌, ◌+◌, ◌<◌, length, slice_index, arith}
-use Rattle.nego_model.specs.Summary.{final_outcomes}
+use Rattle.std.proofs.Common.{◌<◌, arith}
 use Rattle.nego_cli.proofs.Answers.{number_at}
 use Rattle.nego_cli.proofs.ask.final_outcome.Goals as goal
 
