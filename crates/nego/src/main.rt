@@ -11,9 +11,7 @@ use nego_cli::Status;
 use run::{exit_code, run};
 use std::io;
 use std::io::BufReader;
-use std::marker::Brand;
 use std::process::ExitCode;
-use std::sync::ledger::Blank;
 use streams::{ReaderSource, WriterSink};
 use words::SystemArguments;
 
@@ -26,12 +24,5 @@ fn main(rt: HostRuntime) -> ExitCode {
     let mut source = ReaderSource::new(input);
     let mut out = WriterSink::new(io::writer(&rt));
     let mut err = WriterSink::new(io::writer(&stderr));
-    exit_code(run::<_, _, _, _, Brand>(
-        rt.alloc(),
-        &arguments,
-        &mut source,
-        &mut out,
-        &mut err,
-        Blank::new(1),
-    ))
+    exit_code(run(rt.alloc(), &arguments, &mut source, &mut out, &mut err))
 }

@@ -10,10 +10,8 @@ use std::alloc::Global;
 use std::env::FillError;
 use std::io;
 use std::io::{Read, Write};
-use std::marker::Brand;
 use std::process::Abort;
 use std::rt::Env;
-use std::sync::ledger::Blank;
 use std::test::Fail;
 
 /// A reader of these bytes that gives three at a time, and whose call of this number fails.
@@ -200,14 +198,7 @@ fn ends(rt: &impl Abort, alloc: Global, row: &Row, i: usize) {
     let mut out = writer(alloc, row.closed);
     let mut err = writer(alloc, 1000);
     let arguments = SystemArguments { rt: &given };
-    let status = run::<_, _, _, _, Brand>(
-        alloc,
-        &arguments,
-        &mut source,
-        &mut out,
-        &mut err,
-        Blank::new(1),
-    );
+    let status = run(alloc, &arguments, &mut source, &mut out, &mut err);
     assert!(rt; status == row.status, "row {i}");
     assert!(rt; out.writer.taken.as_slice() == row.out, "row {i}");
     assert!(rt; err.writer.taken.as_slice() == row.err, "row {i}");
