@@ -3,7 +3,7 @@ use Rattle.std.proofs.Common.{◌≡◌, ◌∙◌, ⊎_elim, inl, inr, ℕ, suc
 use Rattle.std.specs.Prelude.{IfOk, IfErr}
 use Rattle.std.proofs.lemmas.Bool.{cases_lt}
 use Rattle.nego_model.specs.Negotiation.{IsDeterministic}
-use Rattle.nego_model.specs.Diagram.{PlainDiagram, negotiation_of}
+use Rattle.nego_model.specs.Diagram.{PlainDiagram, IsDiagram, negotiation_of}
 use Rattle.nego_cli.specs.declared.answer.Answer.{Answer}
 use Rattle.nego_cli.specs.declared.command.Command.{Command}
 use Rattle.nego_cli.specs.declared.command.Command.TheVariants as commands
