@@ -34,7 +34,7 @@ left_words d work = left_lines d (map (λ atom. atom.number) work.atoms) []
 judged_fresh : (d : PlainDiagram) (r : Reduced) (verdict : Verdict) → StandsFor (fresh_work d) d → IsFresh (fresh_work d) d → IsMade d (fresh_work d) r → IsVerdictOn d r verdict → IsJudged d r verdict
 judged_fresh d (reduced.One summary uses) verdict stands fresh ((end, leads, done, e), few, decided) is =
     let plain = plain_summary summary in
-    let tells : Tells plain d = reduced_tells d (fresh_work d) (map plain_use uses) plain fresh.diagram_read stands (end, leads, done, e) in
+    let tells : Tells plain d = reduced_tells d (fresh_work d) (map plain_use uses) plain fresh (end, leads, done, e) in
     record {
       fresh = fresh;
       left = end;
