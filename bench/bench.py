@@ -55,8 +55,12 @@ def table(program, command, runs):
 
 def single(program, command, name, diagram, runs):
     words, given = inputs(program, command, diagram)
+    figure(program, command, name, words, given, runs)
+
+
+def figure(program, command, name, words, given, runs):
     status, out, err = answer(program, words, given)
-    said = next((line for line in out.splitlines() if " uses " in line), err.strip())
+    said = next((line for line in out.splitlines() if " uses " in line or line.startswith("rejected")), err.strip())
     print(f"{command} {name}: {least_time(program, words, given, runs):.1f} ms, status {status} {said}")
 
 
@@ -71,6 +75,8 @@ def main():
         table(options.bin, command, options.runs)
         if command in ("check", "reduce", "replay"):
             single(options.bin, command, "purchase", purchase, options.runs)
+        if command == "replay":
+            figure(options.bin, command, "of 19,998 uses", ["replay"], diagrams.long_replay(), options.runs)
         if command in ("check", "reduce"):
             single(options.bin, command, "hub", diagrams.hub(), options.runs)
         if command == "ask":

@@ -88,3 +88,9 @@ def counter(size, rounds):
 
 
 FAMILIES = {"stages": stages, "loops": loops, "forks": forks}
+
+
+def long_replay():
+    """An atom that leads to itself for ever, and a certificate of as many uses as the limit of nodes allows, and one more."""
+    diagram = "nego 1\nagent a 1\natom start a\nout go\ncase :\nnext x a\natom x a\nout u\ncase :\nnext x a\natom end a\nout ok\ncase :\nfirst start\nlast end\nend\n"
+    return diagram + "certificate 1\n" + "shortcut 0 1\n" * 19998 + "end\n"

@@ -9,6 +9,7 @@ mod edge;
 mod linking;
 mod naming;
 mod refusals;
+mod replays;
 mod rules;
 mod runs;
 mod shapes;
@@ -19,13 +20,14 @@ use answers::ANSWERS;
 use asks::ASKS;
 use calls::{BAD_WORDS, Call, answers};
 use refusals::{FAULTS, REFUSALS, lines_are_refused};
+use replays::{certificates_are_replayed, long_certificates_end, reductions_are_replayed};
 use shapes::shapes_are_told;
 use std::test::Fail;
 use verdicts::{VERDICTS, hub_is_undecided};
 
 /// Words that are no command that is built.
 static NOT_BUILT: [&str; 9] = [
-    "", "reduce x", "replay", "help", "--help", "ask", "ask 01", "make 65", "make 2",
+    "", "reduce x", "replay x", "help", "--help", "ask", "ask 01", "make 65", "make 2",
 ];
 
 #[test]
@@ -53,6 +55,14 @@ fn calls_over_memory(rt: HostRuntime) -> Result<(), Fail> {
     }
     lines_are_refused(&rt, alloc)?;
     shapes_are_told(&rt, alloc)
+}
+
+#[test]
+fn replays_over_memory(rt: HostRuntime) -> Result<(), Fail> {
+    let alloc = rt.alloc();
+    certificates_are_replayed(&rt, alloc)?;
+    long_certificates_end(&rt, alloc)?;
+    reductions_are_replayed(&rt, alloc)
 }
 
 #[test]

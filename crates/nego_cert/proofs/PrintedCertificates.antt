@@ -7,11 +7,12 @@ use Rattle.std.proofs.lemmas.List.{length-append}
 use Rattle.std.proofs.lemmas.List.Elements.{All-nil, All-cons, All-head, All-tail}
 use Rattle.nego_base.specs.declared.line.Line.{Line}
 use Rattle.nego_base.specs.LineGrammar.{Say, behind_rows}
+use Rattle.nego_base.specs.Lines.{lines}
 use Rattle.nego_base.specs.Printed.{printed_line, printed, IsPrintableWord, IsPrintable, ArePrintable}
 use Rattle.nego_base.specs.Scan.{scanned, line_at}
 use Rattle.nego_base.proofs.LineFaults.{named_is}
 use Rattle.nego_base.proofs.NameLaws.{each_where_all, decimal_printable}
-use Rattle.nego_base.proofs.PrintedLaws.{words_printed, numbered, scan_fault_printed, scanned_printed}
+use Rattle.nego_base.proofs.PrintedLaws.{words_printed, lines_printed, numbered, scan_fault_printed, scanned_printed}
 use Rattle.nego_base.proofs.WordLaws.{texts_at}
 use Rattle.nego_expr.specs.declared.uses.Use.{Use}
 use Rattle.nego_expr.specs.declared.uses.Use.TheVariants as the_uses
@@ -30,10 +31,10 @@ use Rattle.nego_cert.specs.Laws.{PrintedAreSpelled, SpelledAreShort, HasSmallNum
 
 -- ---- the lines of a printed certificate
 
-abbrev end_words : List (List ℕ)
+abbrev pub end_words : List (List ℕ)
 end_words = codes "end" ∷ []
 
-abbrev header_words : List (List ℕ)
+abbrev pub header_words : List (List ℕ)
 header_words = codes "certificate" ∷ codes "1" ∷ []
 
 abbrev words_behind : List PlainUse → List (List (List ℕ))
@@ -125,6 +126,10 @@ behind_printable : (uses : List PlainUse) → All HasShortNumbers uses → ArePr
 behind_printable [] h = All-cons IsPrintable end_words [] end_printable (All-nil IsPrintable)
 behind_printable (first ∷ uses) h =
     All-cons IsPrintable (use_words first) (words_behind uses) (use_printable first (All-head HasShortNumbers first uses h)) (behind_printable uses (All-tail HasShortNumbers first uses h))
+
+-- the lines of the text
+pub printed_lines : (uses : List PlainUse) → All HasShortNumbers uses → lines (certificate_text uses) ≡ map (λ words. printed_line words ++ 10 ∷ []) (all_words uses)
+printed_lines uses h = ap lines (text_is uses) ∙ lines_printed (all_words uses) (All-cons IsPrintable header_words (words_behind uses) header_printable (behind_printable uses h))
 
 -- ---- what they say
 

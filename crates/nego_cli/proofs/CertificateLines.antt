@@ -1,23 +1,17 @@
--- The lines of uses and of atoms that are left, appended to a text one by one.
-use Rattle.std.proofs.Common.{◌≡◌, ◌∙◌, ℕ, ◌+◌, Bool, true, false, if◌then◌else◌, List, [], ◌∷◌, ◌++◌, length, map, ap, refl, sym, add-one, zero-add, append_assoc}
-use Rattle.std.specs.Prelude.{codes}
+-- The text of a reduction: its certificate, and the lines of atoms that are left, appended one by one.
+use Rattle.std.proofs.Common.{◌≡◌, ◌∙◌, ℕ, ◌+◌, Bool, true, false, if◌then◌else◌, List, [], ◌∷◌, ◌++◌, length, map, ap, refl, sym, add-one, zero-add}
 use Rattle.std.specs.List.{range_with_len}
 use Rattle.std.proofs.lemmas.List.{length-map}
 use Rattle.nego_base.specs.Appending.{Appends}
 use Rattle.nego_base.specs.Bits.{range-suc}
 use Rattle.nego_base.specs.Members.{is_in}
 use Rattle.nego_model.specs.Diagram.{PlainDiagram}
-use Rattle.nego_expr.specs.Use.{PlainUse}
 use Rattle.nego_expr.specs.UseView.{plain_use}
 use Rattle.nego_expr.specs.declared.uses.Use.{Use}
 use Rattle.nego_cli.specs.declared.verdict.Verdict.{Verdict}
 use Rattle.nego_cli.specs.Verdict.{verdict_line}
-use Rattle.nego_cli.specs.Certificate.{use_line, use_lines, certificate_lines, left_line, left_among}
-
--- the lines of uses and of one more
-pub use_lines-more : (uses : List PlainUse) (last : PlainUse) (rest : List ℕ) → use_lines (uses ++ last ∷ []) rest ≡ use_lines uses (use_line last rest)
-use_lines-more [] last rest = refl
-use_lines-more (first ∷ uses) last rest = ap (use_line first) (use_lines-more uses last rest)
+use Rattle.nego_cert.specs.CertificateText.{certificate_text}
+use Rattle.nego_cli.specs.Certificate.{left_line, left_among}
 
 either : (b : Bool) (x y x' y' : List ℕ) → x ≡ x' → y ≡ y' → (if b then x else y) ≡ (if b then x' else y')
 either true x y x' y' e f = e
@@ -52,18 +46,8 @@ pub left_skipped : (d : PlainDiagram) (left old mid : List ℕ) (n : ℕ) → Ap
 left_skipped d left old mid n before is rest =
     before rest ∙ ap (λ t. old ++ t) (ap (left_among d left (range_with_len 0 n)) (sym (left_away d left n rest is)) ∙ sym (below_more d left n rest))
 
--- the certificate and the words behind it, of a text that grows by the lines of the uses, the line `end` and these words
-pub certified : (uses : List PlainUse) (words : List ℕ → List ℕ) (head lines closed whole : List ℕ) → head ≡ codes "certificate 1\n" → Appends head lines (use_lines uses) → closed ≡ lines ++ codes "end\n" →
-    Appends closed whole words → Appends [] whole (λ rest. certificate_lines uses (words rest))
-certified uses words head lines closed whole head_is adds closed_is more rest =
-    more rest
-    ∙ (ap (λ t. t ++ words rest) closed_is
-    ∙ (append_assoc lines (codes "end\n") (words rest)
-    ∙ (adds (codes "end\n" ++ words rest)
-    ∙ ap (λ t. t ++ use_lines uses (codes "end\n" ++ words rest)) head_is)))
-
 -- the certificate, the verdict, and what is said of what is left
-pub printed : (uses : List Use) (verdict : Verdict) (text whole said : List ℕ) → Appends [] text (λ rest. certificate_lines (map plain_use uses) (verdict_line verdict (length uses) rest)) → whole ≡ text ++ said →
-    whole ≡ certificate_lines (map plain_use uses) (verdict_line verdict (length (map plain_use uses)) said)
+pub printed : (uses : List Use) (verdict : Verdict) (text whole said : List ℕ) → Appends [] text (λ rest. certificate_text (map plain_use uses) ++ verdict_line verdict (length uses) rest) → whole ≡ text ++ said →
+    whole ≡ certificate_text (map plain_use uses) ++ verdict_line verdict (length (map plain_use uses)) said
 printed uses verdict text whole said text_is whole_is =
-    whole_is ∙ (text_is said ∙ ap (λ n. certificate_lines (map plain_use uses) (verdict_line verdict n said)) (sym (length-map uses plain_use)))
+    whole_is ∙ (text_is said ∙ ap (λ n. certificate_text (map plain_use uses) ++ verdict_line verdict n said) (sym (length-map uses plain_use)))

@@ -48,6 +48,24 @@ pub took_parts : (n : ℕ) (reads : List Read) (source : Effect) → length read
 took_parts n reads source few h =
     told_so (Reads reads) (TakesParts n) source.before source.after (λ input left is. subst (TakesParts n input) (sym is.1) (takes_parts n (length reads) input few)) h.1
 
+-- Where no more than some parts were taken, no more than more were.
+takes_more : (n m : ℕ) (input now : List ℕ) → n ≤ m → TakesParts n input now → TakesParts m input now
+takes_more zero m input now few is = subst (TakesParts m input) is (takes_none m input)
+takes_more (suc n) zero input now few h = let never : ⊥ = omega (arith, few) in absurd never
+takes_more (suc n) (suc m) input now few (inl inside) = inl inside
+takes_more (suc n) (suc m) input now few (inr further) = let less : n ≤ m = omega (arith, few) in inr (takes_more n m (behind part_limit input) now less further)
+
+pub took_more : (n m : ℕ) (source : Effect) → n ≤ m → TookParts n source → TookParts m source
+took_more n m source few h = told_so (TakesParts n) (TakesParts m) source.before source.after (λ input now. takes_more n m input now few) h
+
+-- Where nothing was taken, no part was read.
+pub read_none : {X : Type 0} (bytes : X → Option (List ℕ)) (faults : X → ℕ) (x : X) → HasRead [] (effect bytes faults x x)
+read_none bytes faults x = (refl, none_read (bytes x))
+  where
+    none_read : (left : Option (List ℕ)) → WhereTold left left (Reads [])
+    none_read None = tt
+    none_read (Some input) = (refl, refl)
+
 -- ---- a part behind others: for the commands that read a second part
 
 read_behind : (first second : List Read) (input at now : List ℕ) → Reads first input at → Reads second at now → Reads (first ++ second) input now

@@ -3,7 +3,7 @@ use Rattle.std.proofs.Common.{◌≡◌, ◌∙◌, ⊎_elim, inl, inr, ℕ, suc
 use Rattle.std.specs.Prelude.{IfOk, IfErr}
 use Rattle.std.proofs.lemmas.Bool.{cases_lt}
 use Rattle.nego_model.specs.Negotiation.{IsDeterministic}
-use Rattle.nego_model.specs.Diagram.{PlainDiagram, negotiation_of}
+use Rattle.nego_model.specs.Diagram.{PlainDiagram, IsDiagram, negotiation_of}
 use Rattle.nego_cli.specs.declared.answer.Answer.{Answer}
 use Rattle.nego_cli.specs.declared.command.Command.{Command}
 use Rattle.nego_cli.specs.declared.command.Command.TheVariants as commands
@@ -20,6 +20,7 @@ use Rattle.nego_cli.specs.Turn.{Turn, TellsText, Refuses, TurnHere, TurnOver, Te
 use Rattle.nego_cli.specs.Check.{CheckTurn, CheckText}
 use Rattle.nego_cli.specs.Reduce.{ReduceTurn, ReduceText, IsUndetermined}
 use Rattle.nego_cli.specs.Starts.{CanStart, CannotStart}
+use Rattle.nego_cli.specs.Replay.{CertificateTurn, ReplayTurn, ReplayText, TurnWhereDetermined, IsReplayText, replay_status}
 use Rattle.nego_cli.specs.Ask.{AskTurn, AskText}
 use Rattle.nego_cli.specs.Verdict.{verdict_status}
 use Rattle.nego_cli.specs.Status.{IsTelling}
@@ -27,7 +28,12 @@ use Rattle.nego_cli.specs.Commands.{TurnOf, TextOf, parts_of, most_parts}
 use Rattle.nego_cli.specs.Refusals.{IsNamed}
 use Rattle.nego_cli.specs.Dispatch.{IsAnswer, HasNoText}
 use Rattle.nego_cli.proofs.PartLaws.{length_reads, reads_more, took_parts}
+use Rattle.nego_cert.specs.declared.cert.Cert.{Cert}
+use Rattle.nego_cert.specs.Table.{SpellsCertificate}
+use Rattle.nego_cert.specs.Replay.{PlainVerdict, Accepted, Rejected, NotOne}
+use Rattle.nego_cli.specs.Loading.{IsNoCertificate}
 use Rattle.nego_cli.proofs.Loaded.{IsKind, diagrams, spelled_diagram}
+use Rattle.nego_cli.proofs.Certificates.{certificates}
 use Rattle.nego_cli.proofs.Undetermined.{undetermined_apart, undetermined_once, undetermined_named}
 use Rattle.nego_cli.proofs.StartLaws.{can_or_cannot, cannot_once, cannot_named}
 
@@ -135,6 +141,42 @@ reduce_telling d reads status text h = subst IsTelling (sym h.status_is) (verdic
 ask_telling : (values : List ℕ) (d : PlainDiagram) → Tells (AskText values d)
 ask_telling values d reads status text h = subst IsTelling (sym h.status_is) (verdict_telling h.verdict)
 
+-- ---- a diagram that must be deterministic, and a certificate behind it
+
+determined_once : (d : PlainDiagram) (does : List Read → Turn → Type 0) → IsDiagram d → EndsOnce does → EndsOnce (TurnWhereDetermined d does)
+determined_once d does diagram once reads more turn other (inl (why, is, none, h)) (inl (why', is', none', k)) =
+    (none_more reads more none none', is ∙ (ap Refuses (undetermined_once d why why' h k) ∙ sym is'))
+determined_once d does diagram once reads more turn other (inl (why, is, none, h)) (inr (determined, done)) = absurd (undetermined_apart d why diagram determined h)
+determined_once d does diagram once reads more turn other (inr (determined, done)) (inl (why, is, none, h)) = absurd (undetermined_apart d why diagram determined h)
+determined_once d does diagram once reads more turn other (inr (determined, done)) (inr (determined', done')) = once reads more turn other done done'
+
+determined_within : (d : PlainDiagram) (does : List Read → Turn → Type 0) (most : ℕ) → EndsWithin most does → EndsWithin most (TurnWhereDetermined d does)
+determined_within d does most within reads turn (inl (why, is, none, h)) = let count = ap length none in omega (arith, count)
+determined_within d does most within reads turn (inr (determined, done)) = within reads turn done
+
+determined_named : (d : PlainDiagram) (does : List Read → Turn → Type 0) → Names does → Names (TurnWhereDetermined d does)
+determined_named d does named reads why (inl (other, is, none, h)) =
+    let same : why ≡ other = cc in
+    subst IsNamed (sym same) (undetermined_named d other h)
+determined_named d does named reads why (inr (determined, done)) = named reads why done
+
+certificate_ends_once : (cert : Cert) → EndsOnce (CertificateTurn cert)
+certificate_ends_once cert reads more turn other h k = (none_more reads more h.1 k.1, h.0 ∙ sym k.0)
+
+certificate_ends_within : (cert : Cert) → EndsWithin 0 (CertificateTurn cert)
+certificate_ends_within cert reads turn h = let count = ap length h.1 in omega (arith, count)
+
+certificate_ends_named : (cert : Cert) → Names (CertificateTurn cert)
+certificate_ends_named cert reads why h = let never : Refuses why ≡ TellsText = h.0 in cc
+
+replay_telling : (verdict : PlainVerdict) → IsTelling (replay_status verdict)
+replay_telling (Accepted summary) = tt
+replay_telling (Rejected line why) = tt
+replay_telling (NotOne left) = tt
+
+certificate_telling : (d : PlainDiagram) (cert : Cert) → Tells (λ reads status text. IsReplayText d cert status text)
+certificate_telling d cert reads status text h = subst IsTelling (sym h.status_is) (replay_telling h.verdict)
+
 -- a command that isn't built
 unbuilt : (command : Command) → ((reads : List Read) (turn : Turn) → TurnOf command reads turn → ⊥) → ((reads : List Read) (status : Status) (text : List ℕ) → TextOf command reads status text → ⊥) → IsCommand command
 unbuilt command no_turn no_text = record {
@@ -159,6 +201,20 @@ known commands.Reduce = record {
   named = over_named SpellsDiagram IsNoDiagram ReduceTurn diagrams (λ d reads why h. undetermined_named d why h.0);
   telling = over_telling IsDiagramOf ReduceText reduce_telling;
 }
+known commands.Replay = record {
+  once = over_once SpellsDiagram IsNoDiagram ReplayTurn diagrams
+      (λ text d spelled. determined_once d (TurnOver SpellsCertificate IsNoCertificate CertificateTurn) (spelled_diagram text d spelled)
+      (over_once SpellsCertificate IsNoCertificate CertificateTurn certificates (λ behind cert spelled. certificate_ends_once cert)));
+  within = λ reads turn h. (
+    2,
+    refl,
+    over_within SpellsDiagram IsNoDiagram ReplayTurn 1
+        (λ d. determined_within d (TurnOver SpellsCertificate IsNoCertificate CertificateTurn) 1 (over_within SpellsCertificate IsNoCertificate CertificateTurn 0 certificate_ends_within)) reads turn h,
+  );
+  named = over_named SpellsDiagram IsNoDiagram ReplayTurn diagrams
+      (λ d. determined_named d (TurnOver SpellsCertificate IsNoCertificate CertificateTurn) (over_named SpellsCertificate IsNoCertificate CertificateTurn certificates certificate_ends_named));
+  telling = over_telling IsDiagramOf ReplayText (λ d. over_telling SpellsCertificate (λ cert reads status text. IsReplayText d cert status text) (certificate_telling d));
+}
 known (commands.Ask values) = record {
   once = over_once SpellsDiagram IsNoDiagram (AskTurn values) diagrams
       (λ text d spelled. here_once (CanStart d values) (CannotStart d values) (can_or_cannot d values (spelled_diagram text d spelled)) (cannot_once d values (spelled_diagram text d spelled)));
@@ -166,7 +222,6 @@ known (commands.Ask values) = record {
   named = over_named SpellsDiagram IsNoDiagram (AskTurn values) diagrams (λ d reads why h. cannot_named d values why h.0);
   telling = over_telling IsDiagramOf (AskText values) (ask_telling values);
 }
-known commands.Replay = unbuilt commands.Replay (λ reads turn h. h) (λ reads status text h. h)
 known (commands.Run starts) = unbuilt (commands.Run starts) (λ reads turn h. h) (λ reads status text h. h)
 known (commands.Node seed turns starts) = unbuilt (commands.Node seed turns starts) (λ reads turn h. h) (λ reads status text h. h)
 known (commands.Make n) = unbuilt (commands.Make n) (λ reads turn h. h) (λ reads status text h. h)

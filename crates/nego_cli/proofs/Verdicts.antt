@@ -1,5 +1,5 @@
 -- What reduction makes of a diagram's fresh work, and its text.
-use Rattle.std.proofs.Common.{◌≡◌, ◌∙◌, inl, inr, ℕ, List, [], length, map, refl, sym, ap, subst}
+use Rattle.std.proofs.Common.{◌≡◌, ◌∙◌, inl, inr, ℕ, List, [], ◌++◌, length, map, refl, sym, ap, subst}
 use Rattle.nego_model.specs.Acyclic.{IsAcyclic}
 use Rattle.nego_model.specs.Diagram.{PlainDiagram, negotiation_of}
 use Rattle.nego_model.specs.Summary.{Tells}
@@ -18,7 +18,8 @@ use Rattle.nego_reduce.proofs.UsesLead.{reduced_tells}
 use Rattle.nego_cli.specs.declared.verdict.Verdict.{Verdict}
 use Rattle.nego_cli.specs.declared.verdict.Verdict.TheVariants as verdicts
 use Rattle.nego_cli.specs.Verdict.{IsVerdict, IsVerdictOn, verdict_line, verdict_status}
-use Rattle.nego_cli.specs.Certificate.{certificate_lines, left_lines, left_text, leftover_text, reduced_text}
+use Rattle.nego_cert.specs.CertificateText.{certificate_text}
+use Rattle.nego_cli.specs.Certificate.{left_lines, left_text, leftover_text, reduced_text}
 use Rattle.nego_cli.specs.Reduction.{Leaves, IsJudged}
 use Rattle.nego_cli.specs.Reduce.{IsReductionText}
 
@@ -33,7 +34,7 @@ left_words d work = left_lines d (map (λ atom. atom.number) work.atoms) []
 judged_fresh : (d : PlainDiagram) (r : Reduced) (verdict : Verdict) → StandsFor (fresh_work d) d → IsFresh (fresh_work d) d → IsMade d (fresh_work d) r → IsVerdictOn d r verdict → IsJudged d r verdict
 judged_fresh d (reduced.One summary uses) verdict stands fresh ((end, leads, done, e), few, decided) is =
     let plain = plain_summary summary in
-    let tells : Tells plain d = reduced_tells d (fresh_work d) (map plain_use uses) plain fresh.diagram_read stands (end, leads, done, e) in
+    let tells : Tells plain d = reduced_tells d (fresh_work d) (map plain_use uses) plain fresh (end, leads, done, e) in
     record {
       fresh = fresh;
       left = end;
@@ -84,7 +85,7 @@ reduction_told d r verdict h = record {
   verdict = verdict;
   reduced = h.reduced;
   status_is = refl;
-  printed = ap (λ text. certificate_lines (uses_of r) (verdict_line verdict (length (uses_of r)) text)) (same_leftover d r h.left verdict h.leaves h.on);
+  printed = ap (λ text. certificate_text (uses_of r) ++ verdict_line verdict (length (uses_of r)) text) (same_leftover d r h.left verdict h.leaves h.on);
 }
 
 -- of one atom that is left the summary tells the diagram

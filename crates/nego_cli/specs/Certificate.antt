@@ -1,34 +1,19 @@
--- The text of a certificate, and of a reduction. Every line ends with a newline.
-use Rattle.std.specs.Prelude.{ℕ, if◌then◌else◌, List, [], ◌∷◌, ◌++◌, length, map, codes, decimal}
+-- The text of a reduction. Every line ends with a newline.
+use Rattle.std.specs.Prelude.{ℕ, if◌then◌else◌, List, [], ◌∷◌, ◌++◌, length, map, codes}
 use Rattle.std.specs.List.{range_with_len}
 use Rattle.nego_base.specs.Members.{is_in}
 use Rattle.nego_model.specs.Diagram.{PlainDiagram, atom_name}
 use Rattle.nego_expr.specs.Work.{PlainWork}
-use Rattle.nego_expr.specs.Use.{PlainUse, Merge, Iterate, Shortcut, Close}
+use Rattle.nego_expr.specs.Use.{PlainUse}
 use Rattle.nego_expr.specs.Finish.{summary_of_work}
 use Rattle.nego_expr.specs.SummaryText.{plain_summary, summary_text}
 use Rattle.nego_reduce.specs.declared.reduced.Reduced.{Reduced}
 use Rattle.nego_reduce.specs.declared.reduced.Reduced.TheVariants as reduced
 use Rattle.nego_reduce.specs.Reducing.{uses_of}
+use Rattle.nego_cert.specs.CertificateText.{certificate_text}
 use Rattle.nego_cli.specs.Verdict.{verdict_line}
 use Rattle.nego_cli.specs.declared.verdict.Verdict.{Verdict}
 use Rattle.nego_cli.specs.declared.verdict.Verdict.TheVariants.{Sound}
-
--- the line of a use, before the rest of a text
-abbrev pub use_line : PlainUse → List ℕ → List ℕ
-use_line (Merge o1 o2) rest = codes "merge " ++ (decimal o1 ++ (codes " " ++ (decimal o2 ++ (codes "\n" ++ rest))))
-use_line (Iterate o) rest = codes "iterate " ++ (decimal o ++ (codes "\n" ++ rest))
-use_line (Shortcut o n) rest = codes "shortcut " ++ (decimal o ++ (codes " " ++ (decimal n ++ (codes "\n" ++ rest))))
-use_line Close rest = codes "close\n" ++ rest
-
--- a line for each use, before the rest of a text
-abbrev pub use_lines : List PlainUse → List ℕ → List ℕ
-use_lines [] rest = rest
-use_lines (first ∷ uses) rest = use_line first (use_lines uses rest)
-
--- the text of a certificate, before the rest of a text
-abbrev pub certificate_lines : List PlainUse → List ℕ → List ℕ
-certificate_lines uses rest = codes "certificate 1\n" ++ use_lines uses (codes "end\n" ++ rest)
 
 -- the line of an atom that is left
 abbrev pub left_line : PlainDiagram → ℕ → List ℕ → List ℕ
@@ -50,7 +35,7 @@ left_text d left _ = left_lines d (map (λ atom. atom.number) left.atoms) []
 
 -- the text of a reduction: the certificate, the verdict, and the summary or the atoms that are left
 abbrev pub reduction_text : PlainDiagram → List PlainUse → PlainWork → Verdict → List ℕ
-reduction_text d uses left verdict = certificate_lines uses (verdict_line verdict (length uses) (left_text d left verdict))
+reduction_text d uses left verdict = certificate_text uses ++ verdict_line verdict (length uses) (left_text d left verdict)
 
 -- what is said of what reduction leaves
 abbrev pub leftover_text : PlainDiagram → Reduced → List ℕ
@@ -60,4 +45,4 @@ leftover_text d (reduced.NodeLimit left uses) = left_lines d (map (λ atom. atom
 
 -- the text of what reduction makes, with this verdict
 abbrev pub reduced_text : PlainDiagram → Reduced → Verdict → List ℕ
-reduced_text d r verdict = certificate_lines (uses_of r) (verdict_line verdict (length (uses_of r)) (leftover_text d r))
+reduced_text d r verdict = certificate_text (uses_of r) ++ verdict_line verdict (length (uses_of r)) (leftover_text d r)

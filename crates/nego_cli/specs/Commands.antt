@@ -9,12 +9,14 @@ use Rattle.nego_cli.specs.Parts.{Read}
 use Rattle.nego_cli.specs.Turn.{Turn, TurnOverDiagram, TextOverDiagram}
 use Rattle.nego_cli.specs.Check.{CheckTurn, CheckText}
 use Rattle.nego_cli.specs.Reduce.{ReduceTurn, ReduceText}
+use Rattle.nego_cli.specs.Replay.{ReplayTurn, ReplayText}
 use Rattle.nego_cli.specs.Ask.{AskTurn, AskText}
 
 -- how many parts of the input a command reads at most, where it is built
 abbrev pub parts_of : Command → Option ℕ
 parts_of commands.Check = Some 1
 parts_of commands.Reduce = Some 1
+parts_of commands.Replay = Some 2
 parts_of (commands.Ask values) = Some 1
 parts_of _ = None
 
@@ -22,6 +24,7 @@ parts_of _ = None
 abbrev pub TurnOf : Command → List Read → Turn → Type 0
 TurnOf commands.Check reads turn = TurnOverDiagram CheckTurn reads turn
 TurnOf commands.Reduce reads turn = TurnOverDiagram ReduceTurn reads turn
+TurnOf commands.Replay reads turn = TurnOverDiagram ReplayTurn reads turn
 TurnOf (commands.Ask values) reads turn = TurnOverDiagram (AskTurn values) reads turn
 TurnOf _ reads turn = ⊥
 
@@ -29,6 +32,7 @@ TurnOf _ reads turn = ⊥
 abbrev pub TextOf : Command → List Read → Status → List ℕ → Type 0
 TextOf commands.Check reads status text = TextOverDiagram CheckText reads status text
 TextOf commands.Reduce reads status text = TextOverDiagram ReduceText reads status text
+TextOf commands.Replay reads status text = TextOverDiagram ReplayText reads status text
 TextOf (commands.Ask values) reads status text = TextOverDiagram (AskText values) reads status text
 TextOf _ reads status text = ⊥
 

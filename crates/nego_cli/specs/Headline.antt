@@ -1,5 +1,5 @@
 -- What `reduce` promises of soundness, over the bytes that it reads and writes.
-use Rattle.std.specs.Prelude.{◌≡◌, ◌⊎◌, ℕ, ◌+◌, ◌*◌, ◌≤◌, List, [], ◌∷◌, length}
+use Rattle.std.specs.Prelude.{◌≡◌, ◌⊎◌, ℕ, ◌+◌, ◌*◌, ◌≤◌, List, [], ◌∷◌, ◌++◌, length}
 use Rattle.nego_model.specs.Negotiation.{IsDeterministic}
 use Rattle.nego_model.specs.Occurring.{IsSound}
 use Rattle.nego_model.specs.Acyclic.{IsAcyclic}
@@ -14,7 +14,7 @@ use Rattle.nego_cli.specs.declared.verdict.Verdict.TheVariants.{Sound}
 use Rattle.nego_cli.specs.Effect.{Effect, HasFaulted, Put}
 use Rattle.nego_cli.specs.Parts.{ReadPart, read_at, HasRead}
 use Rattle.nego_cli.specs.Loading.{SpellsDiagram}
-use Rattle.nego_cli.specs.Certificate.{certificate_lines}
+use Rattle.nego_cert.specs.CertificateText.{certificate_text}
 use Rattle.nego_cli.specs.Verdict.{verdict_line}
 
 -- how many uses are made at most for a diagram
@@ -35,7 +35,7 @@ pub record SaysSound (source out err : Effect) : Type 0 where
   pub sound : IsSound (negotiation_of diagram)
   pub tells : Tells summary diagram
   pub few : length uses ≤ most_uses diagram
-  pub printed : Put (certificate_lines uses (verdict_line Sound (length uses) (summary_text summary))) out
+  pub printed : Put (certificate_text uses ++ verdict_line Sound (length uses) (summary_text summary)) out
   pub nothing : Put [] err
 
 -- Memory was wanted, or a call of the source, of `out` or of `err` failed.

@@ -14,6 +14,9 @@ pub mod Parts
 pub mod Reduce
 pub mod Reduction
 pub mod Refusals
+pub mod Replay
+pub mod ReplayHeadline
+pub mod ReplayLaws
 pub mod Starts
 pub mod Status
 pub mod Texts

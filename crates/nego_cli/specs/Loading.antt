@@ -1,14 +1,15 @@
--- Diagrams that are read of an input.
+-- Diagrams and certificates that are read of an input.
 use Rattle.std.specs.Prelude.{◌≡◌, ◌⊎◌, ⊤, ℕ, List, [], ◌∷◌, Some, None}
 use Rattle.nego_base.specs.declared.fault.Fault.{Fault}
 use Rattle.nego_model.specs.Diagram.{PlainDiagram, IsDiagram}
 use Rattle.nego_reader.specs.declared.parsed.Parsed.{Parsed}
 use Rattle.nego_reader.specs.Spelling.{Spells}
 use Rattle.nego_reader.specs.Table.{IsFirstFault}
+use Rattle.nego_cert.specs.Table as certificates
 use Rattle.nego_shape.specs.declared.fault.ShapeFault.{ShapeFault}
 use Rattle.nego_shape.specs.Faults.{shape_fault}
 use Rattle.nego_cli.specs.declared.failure.PartName.{PartName}
-use Rattle.nego_cli.specs.declared.failure.PartName.TheVariants.{Diagram}
+use Rattle.nego_cli.specs.declared.failure.PartName.TheVariants.{Diagram, Certificate}
 use Rattle.nego_cli.specs.declared.failure.Refusal.{Refusal}
 use Rattle.nego_cli.specs.declared.failure.Refusal.TheVariants.{TooLong, NoEnd, Off, Misshapen}
 use Rattle.nego_cli.specs.declared.failure.Failure.{Failure}
@@ -51,6 +52,14 @@ IsNoPart name is_wrong (ReadNoEnd line) why = why ≡ NoEnd name line
 abbrev pub IsNoDiagram : Read → Refusal → Type 0
 IsNoDiagram = IsNoPart Diagram HasNoDiagram
 
+-- The text is off the grammar of certificates, first at this fault.
+abbrev pub HasNoCertificate : List ℕ → Refusal → Type 0
+HasNoCertificate text why = (fault : Fault) × (why ≡ Off Certificate fault) × certificates.IsFirstFault text fault
+
+-- What was read where a certificate was wanted is none, for this reason.
+abbrev pub IsNoCertificate : Read → Refusal → Type 0
+IsNoCertificate = IsNoPart Certificate HasNoCertificate
+
 -- The text spells this diagram, which is one.
 abbrev pub IsDiagramOf : List ℕ → PlainDiagram → Type 0
 IsDiagramOf text d = SpellsDiagram text d × IsDiagram d
@@ -77,11 +86,11 @@ HasNoPart part source failures.ReadFault = HasFaulted source × TookParts 1 sour
 HasNoPart part source failures.Memory = Stayed source × TookParts 1 source
 HasNoPart part source failures.Words = ⊥
 
--- Why there is no diagram of the text: it has none, or memory was wanted.
-abbrev pub IsUnspelled : List ℕ → Failure → Type 0
-IsUnspelled text (failures.Refused why) = HasNoDiagram text why
-IsUnspelled text failures.Memory = ⊤
-IsUnspelled text _ = ⊥
+-- Why there is no value of the text: it has none, for the reason that its grammar gives, or memory was wanted.
+abbrev pub IsUnspelled : (List ℕ → Refusal → Type 0) → List ℕ → Failure → Type 0
+IsUnspelled is_wrong text (failures.Refused why) = is_wrong text why
+IsUnspelled is_wrong text failures.Memory = ⊤
+IsUnspelled is_wrong text _ = ⊥
 
 -- The value has no fault of shape, and this is its diagram, which is one.
 abbrev pub IsShapeOf : Parsed → PlainDiagram → Type 0

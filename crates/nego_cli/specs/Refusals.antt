@@ -78,6 +78,7 @@ shape_words d (shapes.NotTotal o e) rest = codes "NotTotal " ++ outcome_words d 
 -- the name of a part of an input
 abbrev pub part_name : PartName → List ℕ
 part_name parts.Diagram = codes "diagram"
+part_name parts.Certificate = codes "certificate"
 
 -- a part of an input and a line of it
 abbrev pub place_words : PartName → ℕ → List ℕ → List ℕ

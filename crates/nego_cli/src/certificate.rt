@@ -1,15 +1,17 @@
-//! The text of a certificate, and of what follows it: the verdict, and the summary or the atoms that are left.
+//! The text of a reduction: the certificate, the verdict, and the summary or the atoms that are left.
 
-ghost use Rattle.std.specs.Prelude.{◌≡◌, ◌<◌, [], ◌++◌, codes, decimal, length, map, IfOk, OnOk};
+ghost use Rattle.std.specs.Prelude.{◌≡◌, ◌<◌, [], ◌++◌, length, map, IfOk, OnOk};
 ghost use Rattle.nego_base.specs.Appending.{Appends};
 ghost use Rattle.nego_expr.specs.UseView.{plain_use};
 ghost use Rattle.nego_reduce.specs.Reducing.{uses_of};
-ghost use Rattle.nego_cli.specs.Certificate.{use_line, use_lines, certificate_lines, left_line, left_lines, reduced_text};
+ghost use Rattle.nego_cert.specs.CertificateText.{certificate_text};
+ghost use Rattle.nego_cli.specs.Certificate.{left_line, left_lines, reduced_text};
 ghost use Rattle.nego_cli.specs.Verdict.{verdict_line};
 
 use crate::verdict::Verdict;
 use nego_base::{AtomId, AtomSet, Memory, Text};
-use nego_expr::{Use, Uses, print_summary};
+use nego_cert::print_cert;
+use nego_expr::{Uses, print_summary};
 use nego_model::Diagram;
 use nego_reduce::Reduced;
 use std::alloc::Global;
@@ -41,50 +43,11 @@ pub(crate) fn print_reduction(
 
 /// The text of the certificate of the uses, and the line of the verdict.
 fn print_verdict(alloc: Global, uses: &Uses, verdict: Verdict) -> Result<Text, Memory>
-    ensures { IfOk result (λ text. Appends [] text (λ rest. certificate_lines (map plain_use uses.now) (verdict_line verdict (length uses.now) rest))) }
+    ensures { IfOk result (λ text. Appends [] text (λ rest. certificate_text (map plain_use uses.now) ++ verdict_line verdict (length uses.now) rest)) }
 {
-    let mut text = Text::copy(alloc, b"certificate 1\n")?;
-    add_uses(&mut text, uses.as_slice())?;
-    text.extend_from_slice(b"end\n")?;
+    let mut text = print_cert(alloc, uses)?;
     verdict.add_line(&mut text, uses.len())?;
     Ok(text)
-}
-
-/// Adds a line for each use.
-fn add_uses(text: &mut Text, uses: &[Use]) -> Result<(), Memory>
-    ensures { OnOk result (Appends text.old text.new (use_lines (map plain_use uses.now))) }
-{
-    for u in uses {
-        add_use(text, *u)?;
-    }
-    Ok(())
-}
-
-/// Adds the line of a use.
-fn add_use(text: &mut Text, u: Use) -> Result<(), Memory>
-    ensures { OnOk result (Appends text.old text.new (use_line (plain_use u))) }
-{
-    match u {
-        Use::Merge(o1, o2) => {
-            add_words(text, b"merge ", o1.0 as usize)?;
-            add_words(text, b" ", o2.0 as usize)?;
-        }
-        Use::Iterate(o) => add_words(text, b"iterate ", o.0 as usize)?,
-        Use::Shortcut(o, n) => {
-            add_words(text, b"shortcut ", o.0 as usize)?;
-            add_words(text, b" ", n.0 as usize)?;
-        }
-        Use::Close => text.extend_from_slice(b"close")?,
-    }
-    text.extend_from_slice(b"\n")
-}
-
-/// Adds words and a number behind them.
-fn add_words(text: &mut Text, words: &[u8], n: usize) -> Result<(), Memory>
-    ensures { OnOk result (Appends text.old text.new (λ rest. words.now ++ (decimal n ++ rest))) }
-{
-    text.extend_from_slice(words)?;
-    text.push_decimal(n as u64)
 }
 
 /// Adds a line for each atom of the diagram that is left.

@@ -12,6 +12,7 @@ use crate::check::check;
 use crate::failure::Failure;
 use crate::load::load;
 use crate::reduce::reduce;
+use crate::replay::replay;
 use crate::{Command, WordsAnswer, words_of};
 use nego_base::{Steps, Text};
 use nego_io::Source;
@@ -32,6 +33,10 @@ fn answer<S: Source, C: Ledger>(
     match command {
         Command::Check => check(alloc, &load(alloc, source)?),
         Command::Reduce => reduce(alloc, load(alloc, source)?, steps),
+        Command::Replay => {
+            let d = load(alloc, source)?;
+            replay(alloc, d, source)
+        }
         Command::Ask(values) => ask(alloc, load(alloc, source)?, values.as_slice(), steps),
         _ => Err(Failure::Words),
     }

@@ -13,6 +13,8 @@ use nego_shape::ShapeFault;
 pub enum PartName {
     /// A diagram.
     Diagram,
+    /// A certificate.
+    Certificate,
 }
 
 /// Why start values are no start of the agents of a diagram.

@@ -16,6 +16,8 @@ mod names;
 mod reduce;
 mod reduction;
 mod refusal_text;
+mod replay;
+mod replay_laws;
 mod shape_text;
 mod splitting;
 mod starts;
@@ -27,6 +29,7 @@ mod word_laws;
 mod words;
 
 pub use command::{Command, WordsAnswer};
+pub use replay_laws::reductions_are_replayed;
 pub use status::Status;
 pub use top::nego;
 pub use verdict_laws::verdicts_are_one;

@@ -5,10 +5,12 @@ ghost use Rattle.nego_reader.specs.Content.{content_of};
 ghost use Rattle.nego_shape.specs.Shaped.{HasNameWords};
 ghost use Rattle.nego_cli.specs.Effect.{effect};
 ghost use Rattle.nego_cli.specs.Parts.{HasRead, ReadPart};
-ghost use Rattle.nego_cli.specs.Loading.{HasNoPart, HasValue, HasNoValue, IsNoDiagram, IsDiagramOf, IsUnspelled, IsShapeOf, HasNoShape};
+ghost use Rattle.nego_cli.specs.Loading.{HasNoPart, HasValue, HasNoValue, HasNoDiagram, IsNoDiagram, IsDiagramOf, HasNoCertificate, IsNoCertificate, IsUnspelled, IsShapeOf, HasNoShape};
+ghost use Rattle.nego_cert.specs.Table.{SpellsCertificate};
 
 use crate::failure::{Failure, PartName, Refusal};
 use nego_base::ReadFaults;
+use nego_cert::{Cert, read_cert};
 use nego_io::{Part, ReadAnswer, Source, read_part};
 use nego_model::Diagram;
 use nego_reader::{Parsed, read_diagram};
@@ -42,7 +44,7 @@ pub(crate) fn load_part<S: Source>(
 fn spelled_diagram(alloc: Global, text: &[u8]) -> Result<Diagram, Failure>
     requires { length text.now < 2 ^ 32 - 1 }
     ensures ok { IfOk result (IsDiagramOf text.now) }
-    ensures err { IfErr result (IsUnspelled text.now) }
+    ensures err { IfErr result (IsUnspelled HasNoDiagram text.now) }
 {
     match read_diagram(alloc, text) {
         Ok(parsed) => shaped(alloc, parsed),
@@ -74,4 +76,29 @@ pub(crate) fn load<S: Source>(alloc: Global, source: &mut S) -> Result<Diagram, 
 {
     let part = load_part(alloc, PartName::Diagram, source)?;
     spelled_diagram(alloc, &part.bytes)
+}
+
+/// The certificate that the text spells.
+fn spelled_certificate(alloc: Global, text: &[u8]) -> Result<Cert, Failure>
+    requires { length text.now < 2 ^ 32 - 1 }
+    ensures ok { IfOk result (SpellsCertificate text.now) }
+    ensures err { IfErr result (IsUnspelled HasNoCertificate text.now) }
+{
+    match read_cert(alloc, text) {
+        Ok(cert) => Ok(cert),
+        Err(ReadFaults::Off(fault)) => {
+            Err(Failure::Refused(Refusal::Off(PartName::Certificate, fault)))
+        }
+        Err(ReadFaults::Memory) => Err(Failure::Memory),
+    }
+}
+
+/// Reads the certificate that the rest of the input begins with.
+pub(crate) fn load_certificate<S: Source>(alloc: Global, source: &mut S) -> Result<Cert, Failure>
+    ensures ok { IfOk result (HasValue SpellsCertificate (effect S.left S.faults source.old source.new)) }
+    ensures err { IfErr result (HasNoValue IsNoCertificate (effect S.left S.faults source.old source.new)) }
+    ensures later { S.faults source.old ≤ S.faults source.new }
+{
+    let part = load_part(alloc, PartName::Certificate, source)?;
+    spelled_certificate(alloc, &part.bytes)
 }

@@ -94,6 +94,7 @@ fn part_name(part: PartName) -> &'static [u8]
 {
     match part {
         PartName::Diagram => b"diagram",
+        PartName::Certificate => b"certificate",
     }
 }
 

@@ -9,6 +9,7 @@ ghost use Rattle.nego_cli.specs.Commands.{TurnOf, asked, Asks, most_parts};
 ghost use Rattle.nego_cli.specs.Status.{IsTelling};
 ghost use Rattle.nego_cli.specs.Answer.{Says, ShowsLine, ShowsText, FailsToRead};
 ghost use Rattle.nego_cli.specs.Headline.{Headline};
+ghost use Rattle.nego_cli.specs.ReplayHeadline.{ReplayHeadline};
 
 use crate::deliver::deliver;
 use crate::dispatch::find_answer;
@@ -46,6 +47,10 @@ pub fn nego<S: Source, O: Sink, E: Sink, C: Ledger>(
 
     // `reduce` decides soundness for each acyclic deterministic diagram, and whatever it calls sound is so.
     ensures headline { Asks words.now Command.Reduce → Headline (effect S.left S.faults source.old source.new) (effect O.taken O.faults out.old out.new) (effect E.taken E.faults err.old err.new) result }
+
+    // What `replay` accepts leads from the diagram to the printed summary, which tells the diagram; and its status is that
+    // of the certificate's verdict.
+    ensures certificate { Asks words.now Command.Replay → ReplayHeadline (effect S.left S.faults source.old source.new) (effect O.taken O.faults out.old out.new) (effect E.taken E.faults err.old err.new) result }
 
     // What has no part in the answer stays as it is, whether it tells or not: the source where the command that is asked
     // for reads no part, `out` where no text is put there, and `err` where the text is on `out`.

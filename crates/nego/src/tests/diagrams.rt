@@ -171,3 +171,28 @@ first start
 last end
 end
 ";
+
+/// Two agents, of whom one comes later to the atom where they meet.
+pub(crate) const LATER: &[u8] = b"nego 1
+agent a 1
+agent b 1
+atom start a b
+out go
+case :
+next meet a
+next prep b
+atom prep b
+out p
+case :
+next meet b
+atom meet a b
+out m
+case :
+next end a b
+atom end a b
+out ok
+case :
+first start
+last end
+end
+";

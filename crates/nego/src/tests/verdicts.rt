@@ -1,7 +1,7 @@
 //! The verdicts of `reduce` on diagrams of more atoms.
 
 use crate::tests::calls::{Call, PURCHASE, REDUCED, call_over, words_in};
-use crate::tests::diagrams::{DEAD, FORK, LOOP, ROUND};
+use crate::tests::diagrams::{DEAD, FORK, LATER, LOOP, ROUND};
 use nego_base::{Memory, Seq, Text};
 use nego_io::{MemSink, MemSource};
 use std::alloc::Global;
@@ -80,29 +80,7 @@ left end
     },
     // A party that comes later.
     Call {
-        input: b"nego 1
-agent a 1
-agent b 1
-atom start a b
-out go
-case :
-next meet a
-next prep b
-atom prep b
-out p
-case :
-next meet b
-atom meet a b
-out m
-case :
-next end a b
-atom end a b
-out ok
-case :
-first start
-last end
-end
-",
+        input: LATER,
         out: b"certificate 1
 shortcut 0 1
 shortcut 0 2

@@ -1,10 +1,15 @@
-use Rattle.std.proofs.Common.{refl, subst, sym}
+use Rattle.std.proofs.Common.{◌∙◌, Err, ap, refl, subst, sym}
+use Rattle.std.proofs.lemmas.Result.{err_from_is_err_and}
 use Rattle.nego_cli.specs.declared.command.Command.TheVariants as commands
 use Rattle.nego_cli.specs.Effect.{effect}
 use Rattle.nego_cli.specs.Check.{CheckTurn, CheckText}
 use Rattle.nego_cli.specs.Reduce.{ReduceTurn, ReduceText}
 use Rattle.nego_cli.specs.Ask.{AskTurn, AskText}
+use Rattle.nego_cli.specs.Replay.{ReplayTurn, ReplayText}
+use Rattle.nego_cli.specs.Loading.{SpellsDiagram, IsNoDiagram, IsDiagramOf}
+use Rattle.nego_cli.specs.Turn.{TurnOverDiagram, TextOverDiagram}
 use Rattle.nego_cli.specs.Dispatch.{IsAnswer}
+use Rattle.nego_cli.proofs.AnswersBehind.{command_answer, over_answer, over_none}
 use Rattle.nego_cli.proofs.Turns.{answered}
 use Rattle.nego_cli.proofs.dispatch.answer.Goals as goal
 
@@ -30,3 +35,21 @@ returns-in_ok-load-in-Ask-clause-found g c =
     answered (commands.Ask values) (AskTurn values) (AskText values) (λ reads turn h. h) (λ reads status text h. h) refl source c.in_ok-load-in-Ask.field-0 c.ask.result
     c.in_ok-load-in-Ask.ensures.ok c.ask.ensures.turn c.ask.ensures.ok c.ask.ensures.err in
     subst (λ command. IsAnswer command source c.ask.result) (sym c.in-Ask.is) (subst (λ v. IsAnswer (commands.Ask v) source c.ask.result) c.as_slice.ensures answer)
+
+pub returns-in_ok-d-in-Replay-clause-found : goal.returns-in_ok-d-in-Replay-clause-found
+returns-in_ok-d-in-Replay-clause-found g c =
+    let source = effect g.S.Source.left g.S.Source.faults c.args.source.now c.replay.new.source in
+    subst (λ command. IsAnswer command source c.replay.result) (sym c.in-Replay.is)
+    (command_answer commands.Replay (TurnOverDiagram ReplayTurn) (TextOverDiagram ReplayText) 2 (λ reads turn h. h) (λ reads status text h. h) refl source c.replay.result
+    (over_answer SpellsDiagram IsDiagramOf IsNoDiagram ReplayTurn ReplayText (λ text d h. h.0) 1 g.S.Source.left g.S.Source.faults c.args.source.now c.load-in-Replay.new.source c.replay.new.source
+    c.in_ok-d-in-Replay.d c.replay.result c.in_ok-d-in-Replay.ensures.ok c.replay.ensures.found))
+
+pub returns-in_err-d-in-Replay-clause-found : goal.returns-in_err-d-in-Replay-clause-found
+returns-in_err-d-in-Replay-clause-found g c =
+    let source = effect g.S.Source.left g.S.Source.faults c.args.source.now c.load-in-Replay.new.source in
+    let why = c.in_err-d-in-Replay.field-0.0 in
+    let p = err_from_is_err_and c.from_residual-in_err-d-in-Replay.result c.from_residual-in_err-d-in-Replay.ensures.1 in
+    let answered : IsAnswer commands.Replay source (Err why) =
+    command_answer commands.Replay (TurnOverDiagram ReplayTurn) (TextOverDiagram ReplayText) 2 (λ reads turn h. h) (λ reads status text h. h) refl source (Err why)
+    (over_none SpellsDiagram IsDiagramOf IsNoDiagram ReplayTurn ReplayText 1 source why c.in_err-d-in-Replay.ensures.err) in
+    subst (λ command. IsAnswer command source c.from_residual-in_err-d-in-Replay.result) (sym c.in-Replay.is) (subst (IsAnswer commands.Replay source) (sym (p.1 ∙ ap Err p.2)) answered)

@@ -2,6 +2,7 @@ use Rattle.nego_cli.specs.Effect.{effect}
 use Rattle.nego_cli.proofs.Ends.{what_is_said, usage_shown, refusal_shown, text_shown, out_kept, err_kept}
 use Rattle.nego_cli.proofs.Found.{found_named}
 use Rattle.nego_cli.proofs.Headlines.{headline}
+use Rattle.nego_cli.proofs.ReplayHeadlines.{replay_headline}
 use Rattle.nego_cli.proofs.top.nego.Goals as goal
 
 pub deliver-requires : goal.deliver-requires
@@ -48,6 +49,17 @@ returns-clause-headline g c =
     let found = c.find_answer-answer.ensures.found in
     let put = c.deliver.ensures.delivered in
     headline c.args.words.now source out err c.deliver.result
+    (what_is_said c.args.words.now source out err c.find_answer-answer.result c.deliver.result found put)
+    (text_shown c.args.words.now source out err c.find_answer-answer.result c.deliver.result found put)
+
+pub returns-clause-certificate : goal.returns-clause-certificate
+returns-clause-certificate g c =
+    let source = effect g.S.Source.left g.S.Source.faults c.args.source.now c.find_answer-answer.new.source in
+    let out = effect g.O.Sink.taken g.O.Sink.faults c.args.out.now c.deliver.new.out in
+    let err = effect g.E.Sink.taken g.E.Sink.faults c.args.err.now c.deliver.new.err in
+    let found = c.find_answer-answer.ensures.found in
+    let put = c.deliver.ensures.delivered in
+    replay_headline c.args.words.now source out err c.deliver.result
     (what_is_said c.args.words.now source out err c.find_answer-answer.result c.deliver.result found put)
     (text_shown c.args.words.now source out err c.find_answer-answer.result c.deliver.result found put)
 
