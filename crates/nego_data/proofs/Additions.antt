@@ -158,6 +158,17 @@ relates_more sizes cases i d e case h is =
     spread true false p q = refl
     spread false t p q = refl
 
+-- values are covered by cases and one more where the cases cover them or the one does
+pub covers_more : (values : List ℕ) (cases : List Case) (i : ℕ) (case : Case) → i < length cases → case ≡ get_or cases i case →
+    list_any (λ x. covers x values) (take (i + 1) cases) ≡ (list_any (λ x. covers x values) (take i cases) || covers case values)
+covers_more values cases i case h is =
+    ap (list_any (λ x. covers x values)) (take_more cases i case h ∙ ap (λ x. take i cases ++ x ∷ []) (sym is))
+    ∙ list_any-append (λ x. covers x values) (take i cases) (case ∷ []) ∙ ap (λ b. list_any (λ x. covers x values) (take i cases) || b) (or_none (covers case values))
+  where
+    or_none : (b : Bool) → (b || false) ≡ b
+    or_none true = refl
+    or_none false = refl
+
 -- a table that relates what cases do is theirs
 pub table_of_cases : (sizes : List ℕ) (cases : List Case) (table : List (List ℕ)) → IsTable (data_count sizes) table →
     ((d e : ℕ) → d < data_count sizes → e < data_count sizes → is_related table d e ≡ relates sizes cases d e) → table ≡ rows_of sizes cases

@@ -1,12 +1,12 @@
 -- Laws of sets of joint data that are kept as rows of bits.
-use Rattle.std.proofs.Common.{◌≡◌, inl, inr, ℕ, ◌+◌, ◌-◌, ◌*◌, ◌/◌, ◌%◌, ◌^◌, ◌<◌, ◌≤◌, max, Bool, true, false, ◌&&◌, ◌||◌, ◌==◌, nat_le, List, length, set, slice_index, refl, sym, ap, ap₂, ◌∙◌, arith, add-zero, eq-eqb}
-use Rattle.std.specs.Prelude.{bit_or}
+use Rattle.std.proofs.Common.{◌≡◌, inl, inr, ℕ, ◌+◌, ◌-◌, ◌*◌, ◌/◌, ◌%◌, ◌^◌, ◌<◌, ◌≤◌, min, max, Bool, true, false, ◌&&◌, ◌||◌, ◌==◌, nat_le, nat_lt, List, length, set, slice_index, refl, sym, ap, ap₂, ◌∙◌, arith, add-zero, eq-eqb}
+use Rattle.std.specs.Prelude.{bit_and, bit_or}
 use Rattle.std.specs.Int.{bit_at, w64}
 use Rattle.std.proofs.lemmas.Bool.{cases_eq, cases_lt, cond-true, cond-false, le-leb, lt-leb, ne_eqb, or_right}
 use Rattle.std.proofs.lemmas.Bool.Decides.{nat_tests}
 use Rattle.std.proofs.lemmas.List.{get_or-set_same, get_or-set_other}
 use Rattle.std.proofs.lemmas.Nat.{pow_pos, shr-shr, shr_split}
-use Rattle.std.proofs.lemmas.Nat.Bits.{bit_at-lt, bit_at-zero, bit_at_or, bit_at_above, bit_at_cat_low, bit_at_cat_high, bit_at_set_same, bit_at_set_other}
+use Rattle.std.proofs.lemmas.Nat.Bits.{bit_at-lt, bit_at-zero, bit_at_and, bit_at_or, bit_at_above, bit_at_cat_low, bit_at_cat_high, bit_at_set_same, bit_at_set_other}
 use Rattle.nego_data.specs.BitRows.{is_set, is_moved, word_below}
 
 -- ---- words that are moved
@@ -62,6 +62,12 @@ moved_at row by e k j h p q =
 -- no bit is moved below
 not_moved : (row : List ℕ) (by e : ℕ) → e < by → is_moved row by e ≡ false
 not_moved row by e h = ap (λ b. b && is_set row (e - by)) (lt-leb by e h)
+
+-- a set that is moved by nothing is as it was
+pub moved_by_nothing : (row : List ℕ) (e : ℕ) → is_moved row 0 e ≡ is_set row e
+moved_by_nothing row e =
+    let same : e - 0 ≡ e = omega arith in
+    ap (λ b. b && is_set row (e - 0)) (le-leb 0 e (omega arith)) ∙ ap (is_set row) same
 
 -- where a bit is moved to depends on the distance alone
 moved_along : (row : List ℕ) (by e by' e' : ℕ) → by + e' ≡ by' + e → is_moved row by e ≡ is_moved row by' e'
@@ -136,19 +142,40 @@ is_set-insert row e f here = elim (cases_eq (f / 64) (e / 64)) [
     kept : (f ≡ e → ⊥) → is_set row f ≡ (is_set row f || f == e)
     kept other = or_none (is_set row f) ∙ ap (λ b. is_set row f || b) (sym (ne_eqb f e other))
 
--- one more word, to which numbers are added
-pub is_set-word : (first row : List ℕ) (added : ℕ → Bool) (i word : ℕ) → i < length row → ((k : ℕ) → i ≤ k → slice_index row k ≡ slice_index first k) →
-    ((e : ℕ) → e / 64 < i → is_set row e ≡ (is_set first e || added e)) → ((e : ℕ) → e / 64 ≡ i → (bit_at word (e % 64) == 1) ≡ added e) →
-    (e : ℕ) → e / 64 < i + 1 → is_set (set row i (bit_or (slice_index row i) word)) e ≡ (is_set first e || added e)
-is_set-word first row added i word here rest before bits e below = elim (cases_eq (e / 64) i) [
-  | inl same ↦
-      let old = slice_index row i in
-      ap (λ w. bit_at w (e % 64) == 1) (ap (slice_index (set row i (bit_or old word))) same ∙ get_or-set_same row i (bit_or old word) 0 here)
-      ∙ ap (λ b. b == 1) (bit_at_or old word (e % 64))
-      ∙ either (bit_at old (e % 64)) (bit_at word (e % 64)) (bit_at-lt old (e % 64)) (bit_at-lt word (e % 64))
-      ∙ ap₂ ◌||◌ (ap (λ w. bit_at w (e % 64) == 1) (rest i (omega arith) ∙ ap (slice_index first) (sym same))) (bits e same)
-  | inr other ↦ ap (λ w. bit_at w (e % 64) == 1) (get_or-set_other row i (e / 64) (bit_or (slice_index row i) word) 0 other) ∙ before e (omega arith)
-]
+-- ---- rows that are put together word by word
+
+-- the bits of words are joined one by one
+pub or_joins : (old word k : ℕ) → (bit_at (bit_or old word) k == 1) ≡ (bit_at old k == 1 || bit_at word k == 1)
+or_joins old word k = ap (λ b. b == 1) (bit_at_or old word k) ∙ either (bit_at old k) (bit_at word k) (bit_at-lt old k) (bit_at-lt word k)
   where
     either : (s t : ℕ) → s < 2 → t < 2 → (max s t == 1) ≡ (s == 1 || t == 1)
     either s t p q = grind (arith, nat_tests)
+
+pub and_joins : (old word k : ℕ) → (bit_at (bit_and old word) k == 1) ≡ (bit_at old k == 1 && bit_at word k == 1)
+and_joins old word k = ap (λ b. b == 1) (bit_at_and old word k) ∙ both (bit_at old k) (bit_at word k) (bit_at-lt old k) (bit_at-lt word k)
+  where
+    both : (s t : ℕ) → s < 2 → t < 2 → (min s t == 1) ≡ (s == 1 && t == 1)
+    both s t p q = grind (arith, nat_tests)
+
+-- one more word that is joined
+pub joined-word : (op : ℕ → ℕ → ℕ) (join : Bool → Bool → Bool) → ((old word k : ℕ) → (bit_at (op old word) k == 1) ≡ join (bit_at old k == 1) (bit_at word k == 1)) →
+    (first row : List ℕ) (other : ℕ → Bool) (i word : ℕ) → i < length row → ((k : ℕ) → i ≤ k → slice_index row k ≡ slice_index first k) →
+    ((e : ℕ) → e / 64 < i → is_set row e ≡ join (is_set first e) (other e)) → ((e : ℕ) → e / 64 ≡ i → (bit_at word (e % 64) == 1) ≡ other e) →
+    (e : ℕ) → e / 64 < i + 1 → is_set (set row i (op (slice_index row i) word)) e ≡ join (is_set first e) (other e)
+joined-word op join joins first row other i word here rest before bits e below = elim (cases_eq (e / 64) i) [
+  | inl same ↦
+      let old = slice_index row i in
+      ap (λ w. bit_at w (e % 64) == 1) (ap (slice_index (set row i (op old word))) same ∙ get_or-set_same row i (op old word) 0 here)
+      ∙ joins old word (e % 64)
+      ∙ ap₂ join (ap (λ w. bit_at w (e % 64) == 1) (rest i (omega arith) ∙ ap (slice_index first) (sym same))) (bits e same)
+  | inr differs ↦ ap (λ w. bit_at w (e % 64) == 1) (get_or-set_other row i (e / 64) (op (slice_index row i) word) 0 differs) ∙ before e (omega arith)
+]
+
+-- ---- numbers below a count that pass a test
+
+-- one number more, of which the test is made
+pub one_more : (test : ℕ → Bool) (o e : ℕ) (holds : Bool) → holds ≡ test o → ((test e && nat_lt e o) || (e == o && holds)) ≡ (test e && nat_lt e (o + 1))
+one_more test o e holds is = elim (cases_eq e o) [
+  | inl same ↦ let here : holds ≡ test e = is ∙ ap test (sym same) in grind (arith, nat_tests)
+  | inr other ↦ grind (arith, nat_tests)
+]

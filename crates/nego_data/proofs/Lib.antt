@@ -14,3 +14,6 @@ pub mod Additions
 pub mod Uncovered
 pub mod PartLaws
 pub mod NoOffsets
+pub mod Identity
+pub mod DataSets
+pub mod Lending

@@ -3,9 +3,12 @@ pub mod Places
 pub mod Sizes
 pub mod Kept
 pub mod BitRows
+pub mod DataSets
 pub mod Tables
 pub mod Parts
+pub mod Lent
 pub mod Cases
 pub mod CaseForm
 pub mod Given
 pub mod Locality
+pub mod Covered

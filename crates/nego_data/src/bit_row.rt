@@ -1,5 +1,5 @@
 //! Sets of joint data, kept as rows of bits.
-ghost use Rattle.std.specs.Prelude.{◌≡◌, ℕ, ◌/◌, ◌%◌, ◌<◌, ◌≤◌, false, ◌||◌, ◌==◌, length};
+ghost use Rattle.std.specs.Prelude.{◌≡◌, ℕ, ◌/◌, ◌%◌, ◌<◌, ◌≤◌, true, false, ◌&&◌, ◌||◌, ◌==◌, length};
 ghost use Rattle.std.specs.Int.{bit_at};
 ghost use Rattle.nego_data.specs.BitRows.{is_set, is_moved, word_below};
 
@@ -25,12 +25,55 @@ impl BitRow {
         }
     }
 
+    /// The set of all that are below 1,024.
+    pub(crate) fn all() -> BitRow
+        ensures { (e : ℕ) → e < 1024 → is_set result.words e ≡ true }
+    {
+        BitRow {
+            words: [u64::MAX; MOST_WORDS],
+        }
+    }
+
+    /// Whether e is in the set.
+    pub(crate) fn has(&self, e: u16) -> bool
+        requires { e < 1024 }
+        ensures { result ≡ is_set self.now.words e }
+    {
+        self.words[e as usize / WORD_BITS] >> (e as usize % WORD_BITS) & 1 == 1
+    }
+
+    /// Keeps what is in the other set too.
+    pub(crate) fn keep(&mut self, other: &BitRow)
+        ensures { (e : ℕ) → e < 1024 → is_set self.new.words e ≡ (is_set self.old.words e && is_set other.now.words e) }
+    {
+        for (place, word) in self.words.iter_mut().enumerate() {
+            *word &= other.words[place];
+        }
+    }
+
+    /// Adds the other set.
+    pub(crate) fn add(&mut self, other: &BitRow)
+        ensures { (e : ℕ) → e < 1024 → is_set self.new.words e ≡ (is_set self.old.words e || is_set other.now.words e) }
+    {
+        other.add_moved(0, &mut self.words);
+    }
+
     /// Puts e into the set.
     pub(crate) fn insert(&mut self, e: u16)
         requires { e < 1024 }
         ensures { (f : ℕ) → is_set self.new.words f ≡ (is_set self.old.words f || f == e) }
     {
         set_bit(&mut self.words, e);
+    }
+
+    /// Puts e into the set where this holds.
+    pub(crate) fn insert_where(&mut self, e: u16, holds: bool)
+        requires { e < 1024 }
+        ensures { (f : ℕ) → is_set self.new.words f ≡ (is_set self.old.words f || (f == e && holds)) }
+    {
+        if holds {
+            self.insert(e);
+        }
     }
 
     /// Adds the set, each number in it moved up, to the set that a row of words is.

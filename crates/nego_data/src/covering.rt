@@ -28,7 +28,7 @@ fn any_covers(cases: &[Case], values: &[u16; 16]) -> bool
 }
 
 /// Whether all comparisons of the case hold of the values.
-pub(crate) fn covers(case: &Case, values: &[u16; 16]) -> bool
+fn covers(case: &Case, values: &[u16; 16]) -> bool
     requires { All (TestBelow 16) case.now.tests }
     ensures { result ≡ covers case.now values.now }
 {
@@ -36,7 +36,7 @@ pub(crate) fn covers(case: &Case, values: &[u16; 16]) -> bool
 }
 
 /// Whether the comparison holds of the values.
-fn test_holds(test: &Test, values: &[u16; 16]) -> bool
+pub(crate) fn test_holds(test: &Test, values: &[u16; 16]) -> bool
     requires { TestBelow 16 test.now }
     ensures { result ≡ test_holds test.now values.now }
 {

@@ -112,9 +112,7 @@ fn row_of_offsets(sizes: &Sizes, values: &[[u16; 16]], free: AgentSet) -> BitRow
 {
     let mut offsets = BitRow::none();
     for o in 0..sizes.all() {
-        if is_offset(free, &values[o as usize]) {
-            offsets.insert(o);
-        }
+        offsets.insert_where(o, is_offset(free, &values[o as usize]));
     }
     offsets
 }

@@ -3,10 +3,13 @@
 
 mod bit_row;
 pub mod cases;
+mod covered;
 mod covering;
+mod data_set;
 mod giving;
 mod joint_data;
 pub mod laws;
+mod lender;
 mod making;
 mod parts;
 mod places;
@@ -15,6 +18,8 @@ mod table;
 #[cfg(test)]
 mod tests;
 
+pub use data_set::DataSet;
 pub use joint_data::{SizeFault, Sizes};
+pub use lender::Lender;
 pub use making::{TableFault, table_of};
 pub use table::Table;

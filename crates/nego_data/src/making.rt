@@ -1,19 +1,20 @@
 //! The table of an outcome's cases.
-ghost use Rattle.std.specs.Prelude.{◌≡◌, ◌≢◌, ℕ, ◌<◌, ◌&&◌, ◌||◌, ◌==◌, [], ◌∷◌, length, map, All, IsTrue, IfOk, IfErr};
+ghost use Rattle.std.specs.Prelude.{◌≡◌, ◌≢◌, ℕ, ◌<◌, ◌&&◌, ◌||◌, ◌==◌, [], ◌∷◌, length, map, All, IsTrue, IfOk, IfErr, IfSome};
 ghost use Rattle.nego_data.specs.Data.{data_count};
 ghost use Rattle.nego_data.specs.Tables.{IsTable, is_related};
-ghost use Rattle.nego_data.specs.Cases.{relates, rows_of};
-ghost use Rattle.nego_data.specs.CaseForm.{TestBelow, NamesOnly, AssignsOnce, AssignsBelow, IsNamedBelow, AllCovered, HasTableFault, first_uncovered, named_uncovered};
-ghost use Rattle.std.specs.List.{range_with_len};
+ghost use Rattle.nego_data.specs.Cases.{covers, relates, rows_of};
+ghost use Rattle.nego_data.specs.CaseForm.{NamesOnly, AssignsOnce, AssignsBelow, IsNamedBelow, AllCovered, HasTableFault, first_uncovered, named_uncovered};
+ghost use Rattle.std.specs.List.{list_all, range_with_len};
 ghost use Rattle.nego_data.specs.Given.{is_above};
-ghost use Rattle.nego_data.specs.Sizes.{AreSizes, tuple_of};
-ghost use Rattle.nego_data.specs.Parts.{part_sizes};
+ghost use Rattle.nego_data.specs.Sizes.{tuple_of};
+ghost use Rattle.nego_data.specs.Covered.{AreThose, keep_all, keeps_all};
 ghost use Rattle.nego_data.specs.Locality.{ActsOn};
 ghost use Rattle.nego_data.specs.declared.making.TableFault.TheVariants.{Memory as Starved};
 
 use crate::bit_row::BitRow;
 use crate::cases::Case;
-use crate::covering::{covers, first_uncovered};
+use crate::covered::{has_all, those_covered};
+use crate::covering::first_uncovered;
 use crate::giving::{free_agents, least_number, offsets};
 use crate::rows::Rows;
 use crate::{Sizes, Table};
@@ -62,38 +63,59 @@ pub fn table_of(
     ensures err { IfErr result (HasTableFault sizes.now cases.now) }
 {
     let part = sizes.part(parties);
-    if let Some(d) = uncovered(sizes, parties, &part, cases) {
-        return Err(TableFault::NotTotal(d));
+    if let Ok(Some(rows)) = part_rows(alloc, &part, cases) {
+        return Ok(Table::widened(sizes, parties, part, rows));
     }
-    let rows = part_rows(alloc, &part, cases)?;
-    Ok(Table::widened(sizes, parties, part, rows))
+    match first_uncovered(sizes, cases) {
+        Some(d) => Err(TableFault::NotTotal(d)),
+        None => Err(TableFault::Memory),
+    }
 }
 
-/// The least joint data that no case covers. Where the parties' values are all covered, there are none.
-fn uncovered(sizes: &Sizes, parties: AgentSet, part: &Sizes, cases: &[Case]) -> Option<u16>
-    requires sizes { AreSizes sizes.now }
-    requires part { part.now ≡ part_sizes parties sizes.now }
-    requires named { All (NamesOnly parties) cases.now }
-    requires tests { All (λ case. All (TestBelow 16) case.tests) cases.now }
-    ensures { result ≡ first_uncovered sizes.now cases.now }
-{
-    first_uncovered(part, cases)?;
-    first_uncovered(sizes, cases)
-}
-
-/// The rows of the cases over the parties' values.
-fn part_rows(alloc: Global, part: &Sizes, cases: &[Case]) -> Result<Rows, Memory>
+/// The rows of the cases over the parties' values. `None` where no case covers some of these.
+fn part_rows(alloc: Global, part: &Sizes, cases: &[Case]) -> Result<Option<Rows>, Memory>
     requires named { All (IsNamedBelow (length part.now)) cases.now }
     requires once { All AssignsOnce cases.now }
     requires fits { All (AssignsBelow part.now) cases.now }
-    ensures { IfOk result (λ rows. rows ≡ rows_of part.now cases.now) }
+    ensures rows { IfOk result (λ made. IfSome made (λ rows. rows ≡ rows_of part.now cases.now)) }
+    ensures covered { IfOk result (λ made. IfSome made (λ _. AllCovered part.now cases.now)) }
 {
+    if keep_all(cases) {
+        return Ok(Some(Rows::identity(alloc, part.all())?));
+    }
     let values = all_values(alloc, part)?;
     let mut rows = Rows::empty(alloc, part.all())?;
+    let mut known = Seq::new(alloc);
+    let mut covered = BitRow::none();
     for case in cases {
-        add_case(&mut rows, part, values.as_slice(), case);
+        let those = those_covered(&mut known, part, values.as_slice(), case);
+        covered.add(&those);
+        add_case(&mut rows, part, values.as_slice(), case, &those);
     }
-    Ok(rows)
+    if !has_all(part, &covered) {
+        return Ok(None);
+    }
+    Ok(Some(rows))
+}
+
+/// Whether there is a case, and each covers all joint data and leaves them as they are.
+fn keep_all(cases: &[Case]) -> bool
+    ensures { result ≡ keep_all cases.now }
+{
+    !cases.is_empty() && each_keeps_all(cases)
+}
+
+fn each_keeps_all(cases: &[Case]) -> bool
+    ensures { result ≡ list_all keeps_all cases.now }
+{
+    cases.iter().all(|case| keeps_all(case))
+}
+
+/// Whether the case covers all joint data and leaves them as they are, as it has no comparison and no assignment.
+fn keeps_all(case: &Case) -> bool
+    ensures { result ≡ keeps_all case.now }
+{
+    case.tests.is_empty() && case.sets.is_empty()
 }
 
 /// The values of all joint data, one after the other.
@@ -107,12 +129,13 @@ fn all_values(alloc: Global, sizes: &Sizes) -> Result<Seq<[u16; 16]>, Memory>
     Ok(values)
 }
 
-/// Relates what the case relates too, in a table of the sizes' joint data.
-fn add_case(rows: &mut Rows, sizes: &Sizes, values: &[[u16; 16]], case: &Case)
+/// Relates what the case relates too, in a table of the sizes' joint data, of which it covers those.
+fn add_case(rows: &mut Rows, sizes: &Sizes, values: &[[u16; 16]], case: &Case, those: &BitRow)
     requires values { values.now ≡ map (tuple_of sizes.now) (range_with_len 0 (data_count sizes.now)) }
     requires named { IsNamedBelow (length sizes.now) case.now }
     requires once { AssignsOnce case.now }
     requires fits { AssignsBelow sizes.now case.now }
+    requires those { AreThose sizes.now (covers case.now) those.now.words }
     requires table { IsTable (data_count sizes.now) rows.old }
     ensures table { IsTable (data_count sizes.now) rows.new }
     ensures related { (d e : ℕ) → d < data_count sizes.now → e < data_count sizes.now →
@@ -121,9 +144,8 @@ fn add_case(rows: &mut Rows, sizes: &Sizes, values: &[[u16; 16]], case: &Case)
     let all = sizes.all();
     let offsets = offsets(sizes, values, free_agents(case));
     for d in 0..all {
-        let old = &values[d as usize];
-        if covers(case, old) {
-            let least = least_number(sizes, case, d, old);
+        if those.has(d) {
+            let least = least_number(sizes, case, d, &values[d as usize]);
             relate(rows, d, least, &offsets);
         }
     }

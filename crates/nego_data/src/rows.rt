@@ -5,6 +5,7 @@ ghost use Rattle.nego_data.specs.BitRows.{is_moved};
 ghost use Rattle.nego_data.specs.Tables.{IsTable, is_related, row_words, word_place};
 
 use crate::bit_row::{BitRow, WORD_BITS, set_bit};
+use crate::data_set::DataSet;
 use nego_base::Memory;
 use std::alloc::Global;
 use std::marker::Model;
@@ -36,6 +37,19 @@ impl Rows {
     {
         let words = vec![in alloc; 0; all as usize * row_words(all)]?;
         Ok(Rows { all, words })
+    }
+
+    /// The table of so many joint data of which each is related to itself alone.
+    pub(crate) fn identity(alloc: Global, all: u16) -> Result<Rows, Memory>
+        requires { all ≤ 1024 }
+        ensures table { IfOk result (IsTable all) }
+        ensures related { IfOk result (λ rows. (d e : ℕ) → d < all → e < all → is_related rows d e ≡ (d == e)) }
+    {
+        let mut rows = Rows::empty(alloc, all)?;
+        for d in 0..all {
+            rows.relate(d, d);
+        }
+        Ok(rows)
     }
 
     /// Relates d to the joint data that are above the least by an offset.
@@ -72,6 +86,17 @@ impl Rows {
     {
         let word = self.words[word_place(self.all, d, e)];
         word >> (e as usize % WORD_BITS) & 1 == 1
+    }
+
+    /// The numbers to which d is related, as a set. d is below the number of numbers.
+    pub(crate) fn row(&self, d: u16) -> DataSet
+        requires { d < length self.now }
+        ensures value { result ≡ slice_index_or self.now d [] }
+        ensures table { IsTable (length self.now) self.now }
+    {
+        let words = row_words(self.all);
+        let start = d as usize * words;
+        DataSet::below(&self.words[start..start + words], self.all)
     }
 
     /// How many numbers there are.

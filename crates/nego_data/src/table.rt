@@ -1,13 +1,15 @@
 //! The table of an outcome: a table of its parties' values, while everyone else keeps the value.
-ghost use Rattle.std.specs.Prelude.{◌≡◌, ◌<◌, [], length, slice_get, slice_index_or};
+ghost use Rattle.std.specs.Prelude.{◌≡◌, ◌<◌, [], length, slice_get, slice_index_or, IfOk};
 ghost use Rattle.nego_base.specs.Members.{is_in};
 ghost use Rattle.nego_data.specs.Parts.{widened, IsPart};
 ghost use Rattle.nego_data.specs.Tables.{IsTable};
 
 use crate::Sizes;
+use crate::lender::Lender;
 use crate::parts::{are_kept, are_same, part_number};
 use crate::rows::Rows;
-use nego_base::AgentSet;
+use nego_base::{AgentSet, Memory};
+use std::alloc::Global;
 use std::marker::Model;
 
 /// What an outcome relates, kept as a row of bits for each choice of values of its parties: everyone else keeps the
@@ -60,6 +62,13 @@ impl Table {
         let d = part_number(self.parties, &self.part, &old);
         let e = part_number(self.parties, &self.part, &new);
         are_kept(self.parties, &old, &new) && self.rows.related(d, e)
+    }
+
+    /// The table, ready to lend its rows.
+    pub fn lend(&self, alloc: Global) -> Result<Lender<'_>, Memory>
+        ensures { IfOk result (λ lender. lender ≡ self.now) }
+    {
+        Lender::new(alloc, &self.sizes, self.parties, &self.part, &self.rows)
     }
 
     /// How many joint data there are.

@@ -14,6 +14,8 @@ const A: AgentId = AgentId(0);
 
 const B: AgentId = AgentId(1);
 
+const C: AgentId = AgentId(2);
+
 fn case_of(alloc: Global, tests: &[Test], sets: &[Set]) -> Result<Case, Memory>
     ensures tests { IfOk result (λ case. case.tests ≡ tests.now) }
     ensures sets { IfOk result (λ case. case.sets ≡ sets.now) }
@@ -282,6 +284,110 @@ fn rows_of_many_words(rt: HostRuntime) -> Result<(), Fail> {
     assert!(rt; FULL.iter().all(|row| has_row(&full, 1024, row)));
     let astride = wide(rt.alloc(), &Sizes::new(&[60, 17])?)?;
     assert!(rt; ASTRIDE.iter().all(|row| has_row(&astride, 1020, row)));
+    Ok(())
+}
+
+/// The case `a<1 : a:=1 c:=*`.
+fn started(alloc: Global) -> Result<Case, Memory>
+    ensures names { IfOk result (NamesOnly (0 ∷ 2 ∷ [])) }
+    ensures once { IfOk result AssignsOnce }
+    ensures fits { IfOk result (AssignsBelow (2 ∷ 3 ∷ 2 ∷ [])) }
+{
+    let tests = [Test {
+        agent: A,
+        op: Op::Lt,
+        right: Operand::Number(1),
+    }];
+    let sets = [
+        Set {
+            agent: A,
+            term: Term::Number(1),
+        },
+        Set {
+            agent: C,
+            term: Term::Any,
+        },
+    ];
+    case_of(alloc, &tests, &sets)
+}
+
+/// The case `a>=1 : c:=c-1`.
+fn counted(alloc: Global) -> Result<Case, Memory>
+    ensures names { IfOk result (NamesOnly (0 ∷ 2 ∷ [])) }
+    ensures once { IfOk result AssignsOnce }
+    ensures fits { IfOk result (AssignsBelow (2 ∷ 3 ∷ 2 ∷ [])) }
+{
+    let tests = [Test {
+        agent: A,
+        op: Op::Ge,
+        right: Operand::Number(1),
+    }];
+    let sets = [Set {
+        agent: C,
+        term: Term::Minus(C, 1),
+    }];
+    case_of(alloc, &tests, &sets)
+}
+
+/// The table of three agents, of whom the first and the last are parties, of the two cases.
+fn narrow(alloc: Global, sizes: &Sizes) -> Result<Table, TableFault>
+    requires { sizes.now ≡ 2 ∷ 3 ∷ 2 ∷ [] }
+    ensures { IfOk result (λ table. length table ≡ 12) }
+{
+    let cases = [started(alloc)?, counted(alloc)?];
+    table_of(alloc, sizes, AgentSet::none().with(A).with(C), &cases)
+}
+
+/// The answer where the second case is missing.
+fn unfinished(alloc: Global, sizes: &Sizes) -> Result<Table, TableFault>
+    requires { sizes.now ≡ 2 ∷ 3 ∷ 2 ∷ [] }
+{
+    let cases = [started(alloc)?];
+    table_of(alloc, sizes, AgentSet::none().with(A).with(C), &cases)
+}
+
+/// The table of three agents, of whom the second is the party, of twice the case `:`.
+fn kept(alloc: Global, sizes: &Sizes) -> Result<Table, TableFault>
+    requires { sizes.now ≡ 2 ∷ 3 ∷ 2 ∷ [] }
+    ensures { IfOk result (λ table. length table ≡ 12) }
+{
+    let cases = [case_of(alloc, &[], &[])?, case_of(alloc, &[], &[])?];
+    table_of(alloc, sizes, AgentSet::none().with(B), &cases)
+}
+
+/// What is related where the first and the last agent are parties, as pairs of values `(a, b, c)` numbered in order.
+const NARROW: [(u16, u16); 18] = [
+    (0, 6),
+    (0, 7),
+    (1, 6),
+    (1, 7),
+    (2, 8),
+    (2, 9),
+    (3, 8),
+    (3, 9),
+    (4, 10),
+    (4, 11),
+    (5, 10),
+    (5, 11),
+    (6, 6),
+    (7, 6),
+    (8, 8),
+    (9, 8),
+    (10, 10),
+    (11, 10),
+];
+
+/// Tables of fewer parties than agents.
+#[test]
+fn fewer_parties(rt: HostRuntime) -> Result<(), Fail> {
+    let sizes = Sizes::new(&[2, 3, 2])?;
+    let table = narrow(rt.alloc(), &sizes)?;
+    assert!(rt; has(&table, 12, &NARROW));
+    assert!(rt; (table.count(4), table.nth(4, 1), table.nth(4, 2)) == (2, Some(11), None));
+    assert!(rt; (table.count(9), table.nth(9, 0)) == (1, Some(8)));
+    assert!(rt; unfinished(rt.alloc(), &sizes).err() == Some(TableFault::NotTotal(6)));
+    let same = kept(rt.alloc(), &sizes)?;
+    assert!(rt; (0..12).all(|d| (0..12).all(|e| same.related(d, e) == (d == e))));
     Ok(())
 }
 

@@ -1,8 +1,8 @@
-use Rattle.std.proofs.Common.{◌<◌, ◌∙◌, length, arith}
+use Rattle.std.proofs.Common.{◌<◌, ◌∙◌, ◌||◌, length, arith}
 use Rattle.std.proofs.lemmas.List.{get_or-set_other}
 use Rattle.std.specs.Prelude.{bit_or, slice_index}
 use Rattle.nego_data.specs.BitRows.{is_moved}
-use Rattle.nego_data.proofs.BitRows.{is_set-word}
+use Rattle.nego_data.proofs.BitRows.{or_joins, joined-word}
 use Rattle.nego_data.proofs.bit_row.BitRow.add_moved.Goals as goal
 
 pub loop-place-preserved : goal.loop-place-preserved
@@ -13,5 +13,5 @@ loop-place-preserved c =
     let here : i < length row = omega (arith, c.loop-place-test.true, c.loop-place.auto.row) in
     record {
       rest = λ k h. get_or-set_other row i k (bit_or (slice_index row i) word) 0 (omega (arith, h)) ∙ c.loop-place.invariant.rest k (omega (arith, h));
-      added = is_set-word c.args.row.now row (is_moved c.args.self.now.words c.args.by) i word here c.loop-place.invariant.rest c.loop-place.invariant.added c.moved_word.ensures;
+      added = joined-word bit_or ◌||◌ or_joins c.args.row.now row (is_moved c.args.self.now.words c.args.by) i word here c.loop-place.invariant.rest c.loop-place.invariant.added c.moved_word.ensures;
     }

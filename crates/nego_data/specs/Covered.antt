@@ -1,0 +1,25 @@
+-- Sets of joint data that are told by their values.
+use Rattle.std.specs.Prelude.{◌≡◌, ℕ, ◌<◌, ◌==◌, Bool, not, ◌&&◌, List, length}
+use Rattle.std.specs.List.{list_all}
+use Rattle.nego_data.specs.declared.cases.Case.{Case}
+use Rattle.nego_data.specs.declared.covered.Known.{Known}
+use Rattle.nego_data.specs.BitRows.{is_set}
+use Rattle.nego_data.specs.Cases.{test_holds}
+use Rattle.nego_data.specs.Data.{data_count}
+use Rattle.nego_data.specs.Sizes.{tuple_of}
+
+-- The set has just those joint data whose values pass the test.
+abbrev pub AreThose : List ℕ → (List ℕ → Bool) → List ℕ → Type 0
+AreThose sizes test set = (d : ℕ) → d < data_count sizes → is_set set d ≡ test (tuple_of sizes d)
+
+-- What is known of a comparison is so.
+abbrev pub IsKnown : List ℕ → Known → Type 0
+IsKnown sizes known = AreThose sizes (test_holds known.test) known.set.words
+
+-- whether a case has no comparison and no assignment, so that it covers all joint data and leaves them as they are
+abbrev pub keeps_all : Case → Bool
+keeps_all case = length case.tests == 0 && length case.sets == 0
+
+-- whether there is a case, and all are such
+abbrev pub keep_all : List Case → Bool
+keep_all cases = not (length cases == 0) && list_all keeps_all cases
