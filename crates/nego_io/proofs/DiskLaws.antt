@@ -5,11 +5,11 @@ use Rattle.std.proofs.lemmas.List.{take-append-le, take_all, length-replicate}
 use Rattle.std.proofs.lemmas.List.Sums.{fold-append}
 use Rattle.std.proofs.lemmas.Bool.{cases_lt, cases_eq}
 use Rattle.nego_io.specs.Disks.{LeavesNow, LeavesOnly, Follows, AreCallsOn, IsSince}
-use Rattle.nego_io.specs.MemDisks.{DiskState, MemDisksState, MayLeave, IsImage, content_after, after_step, after_change, disk_at, disk_now, content_now, ArePresent, no_disk_calls, told_of}
+use Rattle.nego_io.specs.MemDisks.{DiskState, MemDisksState, MayLeave, IsImage, content_after, after_update, after_change, disk_at, disk_now, content_now, ArePresent, no_disk_calls, told_of}
 use Rattle.nego_io.specs.ImageLaws.{content-is_image}
 use Rattle.nego_io.specs.declared.change.Change.{Change}
-use Rattle.nego_io.specs.declared.change.Step.{Step}
-use Rattle.nego_io.specs.declared.change.Step.TheVariants.{Write, Cut}
+use Rattle.nego_io.specs.declared.change.Update.{Update}
+use Rattle.nego_io.specs.declared.change.Update.TheVariants.{Write, Cut}
 use Rattle.nego_io.specs.declared.disk_calls.DiskCalls.{DiskCalls}
 
 -- the disks with one more change
@@ -21,11 +21,11 @@ abbrev pub ImageOf : List ℕ → DiskState → Type 0
 ImageOf image disk = IsImage disk.pending disk.synced image
 
 -- a change of the disk itself, and of another
-pub own-change : (i : ℕ) (disk : DiskState) (step : Option Step) → after_change i disk (record { disk = i; step = step }) ≡ after_step disk step
-own-change i disk step = rw (eq-eqb i i refl) refl
+pub own-change : (i : ℕ) (disk : DiskState) (update : Option Update) → after_change i disk (record { disk = i; update = update }) ≡ after_update disk update
+own-change i disk update = rw (eq-eqb i i refl) refl
 
-pub other-change : (i j : ℕ) (disk : DiskState) (step : Option Step) → j ≢ i → after_change j disk (record { disk = i; step = step }) ≡ disk
-other-change i j disk step differ =
+pub other-change : (i j : ℕ) (disk : DiskState) (update : Option Update) → j ≢ i → after_change j disk (record { disk = i; update = update }) ≡ disk
+other-change i j disk update differ =
     let apart : (i == j) ≡ false =
     elim (i == j) as (λ v. (v ≡ true → i ≡ j) → v ≡ false) [ true ↦ λ h. absurd (differ (sym (h refl))) | false ↦ λ h. refl ] (eqb-true i j)
     in rw apart refl
@@ -58,9 +58,9 @@ module _ (s : MemDisksState) (change : Change) (calls : DiskCalls) where
       ]
 
 -- A change of one disk is all that happens to the others.
-pub calls-on : (s : MemDisksState) (i : ℕ) (step : Option Step) (calls : DiskCalls) → calls.failed ≡ s.calls.failed →
-    AreCallsOn i (told_of s) (told_of (changed s (record { disk = i; step = step }) calls))
-calls-on s i step calls counts = record {
+pub calls-on : (s : MemDisksState) (i : ℕ) (update : Option Update) (calls : DiskCalls) → calls.failed ≡ s.calls.failed →
+    AreCallsOn i (told_of s) (told_of (changed s (record { disk = i; update = update }) calls))
+calls-on s i update calls counts = record {
   told = λ told. told;
   disks = refl;
   later = let same = ap (λ (failed : List ℕ). slice_index failed i) counts in omega (arith, same);
@@ -70,37 +70,37 @@ calls-on s i step calls counts = record {
     past = λ t j image le. (λ left. subst (ImageOf image) (disk-past s change calls t j le) left, λ left. subst (ImageOf image) (sym (disk-past s change calls t j le)) left);
   };
   others = λ j differ told. record {
-    content = ap (λ (d : DiskState). content_after d.pending d.synced) (disk-next s change calls j ∙ other-change i j (disk_now s j) step differ);
+    content = ap (λ (d : DiskState). content_after d.pending d.synced) (disk-next s change calls j ∙ other-change i j (disk_now s j) update differ);
     images = λ t image since. let same = still j differ t since in (λ left. subst (ImageOf image) same left, λ left. subst (ImageOf image) (sym same) left);
   };
 }
   where
     change : Change
-    change = record { disk = i; step = step }
+    change = record { disk = i; update = update }
 
     still : (j : ℕ) → j ≢ i → (t : ℕ) → IsSince (told_of s) (told_of (changed s change calls)) t → disk_at (changed s change calls) t j ≡ disk_now s j
-    still j differ t since = ⊎_elim (λ e. e) (λ e. e ∙ other-change i j (disk_now s j) step differ) (disk-since s change calls t j since)
+    still j differ t since = ⊎_elim (λ e. e) (λ e. e ∙ other-change i j (disk_now s j) update differ) (disk-since s change calls t j since)
 
--- a step that wasn't made leaves each image
-pub may_leave-itself : (step : Step) (image : List ℕ) → MayLeave step image image
+-- an update that wasn't made leaves each image
+pub may_leave-itself : (update : Update) (image : List ℕ) → MayLeave update image image
 may_leave-itself (Write at piece) image = record { stays = λ k there outside. refl; no_shorter = omega arith; no_longer = omega arith }
 may_leave-itself (Cut to) image = record { front = sym (take_all (length image) image (omega arith)); no_shorter = omega arith }
 
--- what a step leaves at each moment since
-pub images-after : (s : MemDisksState) (i : ℕ) (step : Step) (calls : DiskCalls) →
-    LeavesOnly (Follows (MayLeave step) (told_of s) i) i (told_of s) (told_of (changed s (record { disk = i; step = Some step }) calls))
-images-after s i step calls told t image since left =
-    let change : Change = record { disk = i; step = Some step } in
+-- what an update leaves at each moment since
+pub images-after : (s : MemDisksState) (i : ℕ) (update : Update) (calls : DiskCalls) →
+    LeavesOnly (Follows (MayLeave update) (told_of s) i) i (told_of s) (told_of (changed s (record { disk = i; update = Some update }) calls))
+images-after s i update calls told t image since left =
+    let change : Change = record { disk = i; update = Some update } in
     ⊎_elim
-    (λ e. (image, (subst (ImageOf image) e left, may_leave-itself step image)))
-    (λ e. subst (ImageOf image) (e ∙ own-change i (disk_now s i) (Some step)) left)
+    (λ e. (image, (subst (ImageOf image) e left, may_leave-itself update image)))
+    (λ e. subst (ImageOf image) (e ∙ own-change i (disk_now s i) (Some update)) left)
     (disk-since s change calls t i since)
 
 -- what a sync leaves at each moment since
 pub images-synced : (s : MemDisksState) (i : ℕ) (calls : DiskCalls) →
-    LeavesOnly (LeavesNow (told_of s) i) i (told_of s) (told_of (changed s (record { disk = i; step = None }) calls))
+    LeavesOnly (LeavesNow (told_of s) i) i (told_of s) (told_of (changed s (record { disk = i; update = None }) calls))
 images-synced s i calls told t image since left =
-    let change : Change = record { disk = i; step = None } in
+    let change : Change = record { disk = i; update = None } in
     ⊎_elim
     (λ e. subst (ImageOf image) e left)
     (λ e. let is_content : image ≡ content_now s i = subst (ImageOf image) (e ∙ own-change i (disk_now s i) None) left in
@@ -114,15 +114,15 @@ images-same s i calls told t image since left =
     let now : t ≡ length s.changes = omega (arith, since.from, since.to) in
     subst (λ (n : ℕ). ImageOf image (disk_at s n i)) now left
 
-pub images-unstepped : (s : MemDisksState) (i : ℕ) (step : Step) (calls : DiskCalls) →
-    LeavesOnly (Follows (MayLeave step) (told_of s) i) i (told_of s) (told_of (record { first = s.first; changes = s.changes; calls = calls }))
-images-unstepped s i step calls told t image since left = (image, (images-same s i calls told t image since left, may_leave-itself step image))
+pub images-unmade : (s : MemDisksState) (i : ℕ) (update : Update) (calls : DiskCalls) →
+    LeavesOnly (Follows (MayLeave update) (told_of s) i) i (told_of s) (told_of (record { first = s.first; changes = s.changes; calls = calls }))
+images-unmade s i update calls told t image since left = (image, (images-same s i calls told t image since left, may_leave-itself update image))
 
 -- the contents are present again once the one of the disk is
-pub present-after : (s : MemDisksState) (i : ℕ) (step : Option Step) (contents : List (List ℕ)) (next : List ℕ) → ArePresent s contents → i < length s.first →
-    next ≡ content_now (changed s (record { disk = i; step = step }) s.calls) i →
-    ArePresent (changed s (record { disk = i; step = step }) s.calls) (slice_set contents i next)
-present-after s i step contents next are below is = record {
+pub present-after : (s : MemDisksState) (i : ℕ) (update : Option Update) (contents : List (List ℕ)) (next : List ℕ) → ArePresent s contents → i < length s.first →
+    next ≡ content_now (changed s (record { disk = i; update = update }) s.calls) i →
+    ArePresent (changed s (record { disk = i; update = update }) s.calls) (slice_set contents i next)
+present-after s i update contents next are below is = record {
   all = length-set contents i next ∙ are.all;
   few = are.few;
   present = λ j there. ⊎_elim (λ e. here j e) (λ e. there_still j there e) (cases_eq j i);
@@ -131,7 +131,7 @@ present-after s i step contents next are below is = record {
 }
   where
     change : Change
-    change = record { disk = i; step = step }
+    change = record { disk = i; update = update }
 
     here : (j : ℕ) → j ≡ i → slice_index_or (slice_set contents i next) j [] ≡ content_now (changed s change s.calls) j
     here j e =
@@ -141,11 +141,11 @@ present-after s i step contents next are below is = record {
     there_still : (j : ℕ) → j < length s.first → j ≢ i → slice_index_or (slice_set contents i next) j [] ≡ content_now (changed s change s.calls) j
     there_still j there differ =
         get_or-set_other contents i j next [] differ
-        ∙ (are.present j there ∙ sym (ap (λ (d : DiskState). content_after d.pending d.synced) (disk-next s change s.calls j ∙ other-change i j (disk_now s j) step differ)))
+        ∙ (are.present j there ∙ sym (ap (λ (d : DiskState). content_after d.pending d.synced) (disk-next s change s.calls j ∙ other-change i j (disk_now s j) update differ)))
 
--- what the disk has after a step
-pub content-next : (s : MemDisksState) (i : ℕ) (step : Option Step) → content_now (changed s (record { disk = i; step = step }) s.calls) i ≡ content_after (after_step (disk_now s i) step).pending (after_step (disk_now s i) step).synced
-content-next s i step = ap (λ (d : DiskState). content_after d.pending d.synced) (disk-next s (record { disk = i; step = step }) s.calls i ∙ own-change i (disk_now s i) step)
+-- what the disk has after an update
+pub content-next : (s : MemDisksState) (i : ℕ) (update : Option Update) → content_now (changed s (record { disk = i; update = update }) s.calls) i ≡ content_after (after_update (disk_now s i) update).pending (after_update (disk_now s i) update).synced
+content-next s i update = ap (λ (d : DiskState). content_after d.pending d.synced) (disk-next s (record { disk = i; update = update }) s.calls i ∙ own-change i (disk_now s i) update)
 
 -- at first the contents are present
 pub present-first : (first : List (List ℕ)) (listed : List (ℕ × ℕ)) (fuse : Option ℕ) → length first < 2 ^ 32 →

@@ -73,9 +73,9 @@ pub record IsRead (i : ℕ) (old new : ToldDisks) : Type 0 where
   pub images : LeavesOnly (LeavesNow old i) i old new
   pub calls : AreCallsOn i old new
 
--- An image that the disk had, after such a step.
+-- An image that the disk had, after such an update.
 abbrev pub Follows : (List ℕ → List ℕ → Type 0) → ToldDisks → ℕ → List ℕ → Type 0
-Follows Step d i image = (before : List ℕ) × (LeavesNow d i before × Step before image)
+Follows Leaves d i image = (before : List ℕ) × (LeavesNow d i before × Leaves before image)
 
 -- the content with a piece written over it, from a place on
 abbrev pub overwritten : ℕ → List ℕ → List ℕ → List ℕ

@@ -1,10 +1,10 @@
--- What steps leave of a content is one of its images.
+-- What updates leave of a content is one of its images.
 use Rattle.std.proofs.Common.{◌≡◌, ℕ, ◌+◌, ◌-◌, ◌<◌, ◌≤◌, ⊎_elim, List, [], ◌∷◌, ◌++◌, length, take, drop, min, refl, sym, ◌∙◌, ap, arith, get_or, length-append, length-take, length-drop, length-take-le, get_or-take, get_or-drop}
 use Rattle.std.proofs.lemmas.List.{get_or_append_left, get_or-append_right, take_min}
 use Rattle.nego_io.specs.Disks.{overwritten, Torn, Shortened, LeavesNow}
 use Rattle.nego_io.specs.MemDisks.{MemDisksState, content_after, IsImage, disk_now, content_now, told_of}
-use Rattle.nego_io.specs.declared.change.Step.{Step}
-use Rattle.nego_io.specs.declared.change.Step.TheVariants.{Write, Cut}
+use Rattle.nego_io.specs.declared.change.Update.{Update}
+use Rattle.nego_io.specs.declared.change.Update.TheVariants.{Write, Cut}
 
 -- how long a content is once a piece was written over it
 pub length-overwritten : (at : ℕ) (piece content : List ℕ) → length (overwritten at piece content) ≡ min at (length content) + (length piece + (length content - (at + length piece)))
@@ -43,8 +43,8 @@ shortened-take to content = record {
   no_shorter = omega (arith, length-take to content);
 }
 
--- what steps leave is an image
-pub after-is_image : (pending : List Step) (synced : List ℕ) → IsImage pending synced (content_after pending synced)
+-- what updates leave is an image
+pub after-is_image : (pending : List Update) (synced : List ℕ) → IsImage pending synced (content_after pending synced)
 after-is_image [] synced = refl
 after-is_image (Write at piece ∷ earlier) synced = (content_after earlier synced, (after-is_image earlier synced, torn-overwritten at piece (content_after earlier synced)))
 after-is_image (Cut to ∷ earlier) synced = (content_after earlier synced, (after-is_image earlier synced, shortened-take to (content_after earlier synced)))

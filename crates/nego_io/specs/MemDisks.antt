@@ -4,43 +4,43 @@ use Rattle.std.specs.List.{list_any}
 use Rattle.nego_io.specs.Outside.{next_count}
 use Rattle.nego_io.specs.Disks.{ToldDisks, overwritten, Torn, Shortened}
 use Rattle.nego_io.specs.declared.change.Change.{Change}
-use Rattle.nego_io.specs.declared.change.Step.{Step}
-use Rattle.nego_io.specs.declared.change.Step.TheVariants.{Write, Cut}
+use Rattle.nego_io.specs.declared.change.Update.{Update}
+use Rattle.nego_io.specs.declared.change.Update.TheVariants.{Write, Cut}
 use Rattle.nego_io.specs.declared.disk_calls.DiskCalls.{DiskCalls}
 
--- a disk: its content at its last sync, and the steps since then, the latest first
+-- a disk: its content at its last sync, and the updates since then, the latest first
 pub record DiskState : Type 0 where
   pub synced : List ℕ
-  pub pending : List Step
+  pub pending : List Update
 
--- the content after one more step
-abbrev pub stepped : Step → List ℕ → List ℕ
-stepped (Write at piece) content = overwritten at piece content
-stepped (Cut to) content = take to content
+-- the content after one more update
+abbrev pub updated : Update → List ℕ → List ℕ
+updated (Write at piece) content = overwritten at piece content
+updated (Cut to) content = take to content
 
--- the content after these steps, of which the latest stands first
-abbrev pub content_after : List Step → List ℕ → List ℕ
+-- the content after these updates, of which the latest stands first
+abbrev pub content_after : List Update → List ℕ → List ℕ
 content_after [] synced = synced
-content_after (step ∷ earlier) synced = stepped step (content_after earlier synced)
+content_after (update ∷ earlier) synced = updated update (content_after earlier synced)
 
--- what one more step may leave of an image
-abbrev pub MayLeave : Step → List ℕ → List ℕ → Type 0
+-- what one more update may leave of an image
+abbrev pub MayLeave : Update → List ℕ → List ℕ → Type 0
 MayLeave (Write at piece) before image = Torn at (length piece) before image
 MayLeave (Cut to) before image = Shortened to before image
 
--- what these steps may leave, of which the latest stands first
-abbrev pub IsImage : List Step → List ℕ → List ℕ → Type 0
+-- what these updates may leave, of which the latest stands first
+abbrev pub IsImage : List Update → List ℕ → List ℕ → Type 0
 IsImage [] synced image = image ≡ synced
-IsImage (step ∷ earlier) synced image = (before : List ℕ) × (IsImage earlier synced before × MayLeave step before image)
+IsImage (update ∷ earlier) synced image = (before : List ℕ) × (IsImage earlier synced before × MayLeave update before image)
 
--- the disk after one more change: a step is pending, and without one it was a sync, which makes the content last
-abbrev pub after_step : DiskState → Option Step → DiskState
-after_step disk (Some step) = record { synced = disk.synced; pending = step ∷ disk.pending }
-after_step disk None = record { synced = content_after disk.pending disk.synced; pending = [] }
+-- the disk after one more change: an update is pending, and without one it was a sync, which makes the content last
+abbrev pub after_update : DiskState → Option Update → DiskState
+after_update disk (Some update) = record { synced = disk.synced; pending = update ∷ disk.pending }
+after_update disk None = record { synced = content_after disk.pending disk.synced; pending = [] }
 
 -- disk i after one more change, which may be of another disk
 abbrev pub after_change : ℕ → DiskState → Change → DiskState
-after_change i disk change = if change.disk == i then after_step disk change.step else disk
+after_change i disk change = if change.disk == i then after_update disk change.update else disk
 
 -- a disk with its first content, and nothing pending
 abbrev pub at_first : List ℕ → DiskState
@@ -118,16 +118,16 @@ after_call i succeeded calls =
     }
 
 -- the change of a call where it succeeds; one that fails does nothing else
-abbrev pub changes_of : ℕ → Bool → Option Step → List Change
-changes_of i succeeded step = if succeeded then record { disk = i; step = step } ∷ [] else []
+abbrev pub changes_of : ℕ → Bool → Option Update → List Change
+changes_of i succeeded update = if succeeded then record { disk = i; update = update } ∷ [] else []
 
 -- The disks after a call that reads.
 abbrev pub after_look : ℕ → Bool → MemDisksState → MemDisksState
 after_look i succeeded s = record { first = s.first; changes = s.changes; calls = after_call i succeeded s.calls }
 
 -- The disks after a call that changes one.
-abbrev pub after_make : ℕ → Bool → Option Step → MemDisksState → MemDisksState
-after_make i succeeded step s = record { first = s.first; changes = s.changes ++ changes_of i succeeded step; calls = after_call i succeeded s.calls }
+abbrev pub after_make : ℕ → Bool → Option Update → MemDisksState → MemDisksState
+after_make i succeeded update s = record { first = s.first; changes = s.changes ++ changes_of i succeeded update; calls = after_call i succeeded s.calls }
 
 -- no call was made yet
 abbrev pub no_disk_calls : ℕ → List (ℕ × ℕ) → Option ℕ → DiskCalls
@@ -135,7 +135,7 @@ no_disk_calls disks listed fuse =
     record { listed = listed; fuse = fuse; all = 0; made = replicate disks 0; failed = replicate disks 0; starved = 0 }
 
 -- the image in which every byte written since the last sync is the filler
-abbrev pub filled : ℕ → List Step → List ℕ → List ℕ
+abbrev pub filled : ℕ → List Update → List ℕ → List ℕ
 filled filler [] synced = synced
 filled filler (Write at piece ∷ earlier) synced = overwritten at (replicate (length piece) filler) (filled filler earlier synced)
 filled filler (Cut to ∷ earlier) synced = take to (filled filler earlier synced)

@@ -3,9 +3,9 @@ ghost use Rattle.std.specs.Prelude.{◌≡◌, ℕ, ◌<◌, ◌≤◌, ◌+◌,
 ghost use Rattle.nego_io.specs.Outside.{HasCause};
 ghost use Rattle.nego_io.specs.Disks.{LeavesNow, LeavesOnly, IsRead, Follows, AreCallsOn, HasContent, IsSynced, overwritten, Torn, Shortened, Ragged};
 ghost use Rattle.nego_io.specs.MemDisks.{told_of, content_now, disk_now, must_fail, no_disk_calls, after_look, after_make, filled};
-ghost use Rattle.nego_io.specs.declared.change.Step.TheVariants as steps;
+ghost use Rattle.nego_io.specs.declared.change.Update.TheVariants as updates;
 
-use crate::change::{Change, Step};
+use crate::change::{Change, Update};
 use crate::disk_calls::DiskCalls;
 use crate::replay::{replayed, spliced};
 use crate::{Disks, Failed};
@@ -85,14 +85,14 @@ impl MemDisks {
     /// Writes a piece over the content of a disk.
     fn write(&mut self, i: u32, at: usize, piece: &[u8]) -> Result<(), Memory>
         requires { i < length self.old.first }
-        ensures ok { OnOk result (self.new ≡ record self.old { changes = self.old.changes ++ record { disk = i; step = Some (steps.Write at piece.now) } ∷ [] }) }
+        ensures ok { OnOk result (self.new ≡ record self.old { changes = self.old.changes ++ record { disk = i; update = Some (updates.Write at piece.now) } ∷ [] }) }
         ensures err { OnErr result (self.new ≡ self.old) }
     {
         let content = self.contents[i as usize].as_slice();
         let next = spliced(self.alloc, content, at, piece)?;
         let change = Change {
             disk: i,
-            step: Some(Step::Write(at, Text::copy(self.alloc, piece)?)),
+            update: Some(Update::Write(at, Text::copy(self.alloc, piece)?)),
         };
         self.changes.push(change)?;
         self.contents.set(i as usize, next);
@@ -102,12 +102,12 @@ impl MemDisks {
     /// Cuts the content of a disk.
     fn shorten(&mut self, i: u32, to: usize) -> Result<(), Memory>
         requires { i < length self.old.first }
-        ensures ok { OnOk result (self.new ≡ record self.old { changes = self.old.changes ++ record { disk = i; step = Some (steps.Cut to) } ∷ [] }) }
+        ensures ok { OnOk result (self.new ≡ record self.old { changes = self.old.changes ++ record { disk = i; update = Some (updates.Cut to) } ∷ [] }) }
         ensures err { OnErr result (self.new ≡ self.old) }
     {
         let change = Change {
             disk: i,
-            step: Some(Step::Cut(to)),
+            update: Some(Update::Cut(to)),
         };
         self.changes.push(change)?;
         self.contents[i as usize].truncate(to);
@@ -117,12 +117,12 @@ impl MemDisks {
     /// Makes what is pending on a disk last.
     fn settle(&mut self, i: u32) -> Result<(), Memory>
         requires { i < length self.old.first }
-        ensures ok { OnOk result (self.new ≡ record self.old { changes = self.old.changes ++ record { disk = i; step = None } ∷ [] }) }
+        ensures ok { OnOk result (self.new ≡ record self.old { changes = self.old.changes ++ record { disk = i; update = None } ∷ [] }) }
         ensures err { OnErr result (self.new ≡ self.old) }
     {
         let change = Change {
             disk: i,
-            step: None,
+            update: None,
         };
         self.changes.push(change)?;
         Ok(())
@@ -188,7 +188,7 @@ impl Disks for MemDisks {
 
         // It fails where its number is listed or the fuse is reached, and else only where it found no memory.
         ensures fails { IsTrue (must_fail i self.old.calls) → IsErr result }
-        ensures state { self.new ≡ after_make i (is_ok result) (Some (steps.Write at piece.now)) self.old }
+        ensures state { self.new ≡ after_make i (is_ok result) (Some (updates.Write at piece.now)) self.old }
     {
         if self.calls.begin(i) {
             return Err(self.calls.fail(i));
@@ -211,7 +211,7 @@ impl Disks for MemDisks {
 
         // It fails where its number is listed or the fuse is reached, and else only where it found no memory.
         ensures fails { IsTrue (must_fail i self.old.calls) → IsErr result }
-        ensures state { self.new ≡ after_make i (is_ok result) (Some (steps.Cut to)) self.old }
+        ensures state { self.new ≡ after_make i (is_ok result) (Some (updates.Cut to)) self.old }
     {
         if self.calls.begin(i) {
             return Err(self.calls.fail(i));

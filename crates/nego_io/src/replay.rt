@@ -4,7 +4,7 @@ ghost use Rattle.nego_io.specs.Disks.{overwritten};
 ghost use Rattle.nego_io.specs.MemDisks.{at_first, disk_after};
 ghost use Rattle.nego_io.specs.Replay.{remade, replay_of};
 
-use crate::change::{Change, Step};
+use crate::change::{Change, Update};
 use nego_base::{Memory, Text};
 use std::alloc::Global;
 
@@ -30,16 +30,16 @@ impl Replay {
     }
 
     /// Makes a change of the disk once more.
-    pub fn redo(&mut self, alloc: Global, step: &Option<Step>) -> Result<(), Memory>
-        ensures { OnOk result (self.new ≡ remade step.now self.old) }
+    pub fn redo(&mut self, alloc: Global, update: &Option<Update>) -> Result<(), Memory>
+        ensures { OnOk result (self.new ≡ remade update.now self.old) }
     {
-        match step {
-            Some(Step::Write(at, piece)) => {
+        match update {
+            Some(Update::Write(at, piece)) => {
                 let filling = Text::from_vec(vec![in alloc; self.filler; piece.len()]?);
                 self.content = spliced(alloc, self.content.as_slice(), *at, piece.as_slice())?;
                 self.image = spliced(alloc, self.image.as_slice(), *at, filling.as_slice())?;
             }
-            Some(Step::Cut(to)) => {
+            Some(Update::Cut(to)) => {
                 self.content.truncate(*to);
                 self.image.truncate(*to);
             }
@@ -62,7 +62,7 @@ pub fn replayed(
     let mut replay = Replay::new(alloc, first, filler)?;
     for change in changes {
         if change.disk == i {
-            replay.redo(alloc, &change.step)?;
+            replay.redo(alloc, &change.update)?;
         }
     }
     Ok(replay)

@@ -1,8 +1,8 @@
 use Rattle.std.proofs.Common.{ap, Some, sym, subst}
 use Rattle.nego_io.specs.Disks.{LeavesOnly, Follows, AreCallsOn}
 use Rattle.nego_io.specs.MemDisks.{MemDisksState, MayLeave, told_of}
-use Rattle.nego_io.specs.declared.change.Step.{Step}
-use Rattle.nego_io.specs.declared.change.Step.TheVariants.{Cut}
+use Rattle.nego_io.specs.declared.change.Update.{Update}
+use Rattle.nego_io.specs.declared.change.Update.TheVariants.{Cut}
 use Rattle.nego_io.specs.declared.disk_calls.DiskCalls.{DiskCalls}
 use Rattle.nego_io.proofs.DiskLaws.{calls-on, images-after}
 use Rattle.nego_io.proofs.mem_disks.MemDisksDisks.cut.Goals as goal
@@ -10,10 +10,10 @@ use Rattle.nego_io.proofs.mem_disks.MemDisksDisks.cut.Goals as goal
 pub returns-in-Ok-clause-images : goal.returns-in-Ok-clause-images
 returns-in-Ok-clause-images c =
     let i = c.args.i in
-    let step : Step = Cut c.args.to in
+    let update : Update = Cut c.args.to in
     let was : MemDisksState = record { first = c.self.inside.first; changes = c.self.inside.changes; calls = c.self.inside.calls } in
-    let made = subst (λ (s : MemDisksState). LeavesOnly (Follows (MayLeave step) (told_of was) i) i (told_of was) (told_of s)) (sym c.in-Ok.ensures.ok) (images-after was i step c.begin.new.self) in
-    subst (λ (s : MemDisksState). LeavesOnly (Follows (MayLeave step) (told_of s) i) i (told_of s) (told_of c.shorten.new.self)) c.self.view_is made
+    let made = subst (λ (s : MemDisksState). LeavesOnly (Follows (MayLeave update) (told_of was) i) i (told_of was) (told_of s)) (sym c.in-Ok.ensures.ok) (images-after was i update c.begin.new.self) in
+    subst (λ (s : MemDisksState). LeavesOnly (Follows (MayLeave update) (told_of s) i) i (told_of s) (told_of c.shorten.new.self)) c.self.view_is made
 
 pub returns-in-Ok-clause-calls : goal.returns-in-Ok-clause-calls
 returns-in-Ok-clause-calls c =
