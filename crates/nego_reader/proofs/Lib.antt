@@ -12,6 +12,7 @@ pub mod PrintableRows
 pub mod PrintedAgain
 pub mod PrintedContent
 pub mod PutLines
+pub mod RisingWords
 pub mod RowKinds
 pub mod Said
 pub mod Spacing

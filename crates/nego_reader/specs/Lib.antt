@@ -1,5 +1,6 @@
 pub mod Rows
 pub mod Spelling
+pub mod Rising
 pub mod Table
 pub mod Reading
 pub mod Answer

@@ -5,6 +5,7 @@ ghost use Rattle.nego_reader.specs.declared.parsed.Parsed.{Parsed};
 ghost use Rattle.nego_reader.specs.Content.{content_of};
 ghost use Rattle.nego_reader.specs.Printable.{IsPrintableDiagram};
 ghost use Rattle.nego_reader.specs.Printing.{printed_diagram};
+ghost use Rattle.nego_reader.specs.Rising.{HasRisingWords};
 ghost use Rattle.nego_reader.specs.Spelling.{Spells};
 ghost use Rattle.nego_reader.specs.Table.{IsFirstFault};
 ghost use Rattle.nego_base.specs.declared.fault.Fault.{Fault};
@@ -12,6 +13,11 @@ ghost use Rattle.nego_base.specs.declared.fault.Fault.{Fault};
 /// A text spells at most one diagram.
 pub fn texts_spell_one_diagram()
     ensures { (bytes : List ℕ) (p q : Parsed) → Spells bytes p → Spells bytes q → p ≡ q }
+{}
+
+/// Lines rise from each line of a spelled diagram to the next, and in a line columns rise from name to name.
+pub fn spelled_words_rise()
+    ensures { (bytes : List ℕ) (p : Parsed) → Spells bytes p → HasRisingWords p }
 {}
 
 /// A text spells a diagram or has a first fault, never both, and it has one first fault at most.

@@ -10,7 +10,7 @@ ghost use Rattle.nego_base.specs.LineAnswers.{Gives, Tells, FitsWord, FitsLine};
 
 use crate::parsed::{PAgent, PCase, PNext, PSet, PTest};
 use crate::words::{set_of, test_of};
-use nego_base::{Fault, FaultKind, Line, ReadFaults, Seq, Word};
+use nego_base::{Fault, FaultKind, Line, ReadFaults, Reserved, Seq, Word};
 use std::alloc::Global;
 
 /// The words of the line from place n on.
@@ -84,11 +84,11 @@ pub(crate) fn named_in(alloc: Global, line: &Line) -> Result<Word, ReadFaults>
 fn names_of(alloc: Global, words: &[Word]) -> Result<Seq<Word>, ReadFaults>
     ensures { Gives (λ names. names) result (each name_of words.now) }
 {
-    let mut names = Seq::new(alloc);
+    let mut names = Reserved::new(alloc, words.len())?;
     for word in words {
-        names.push(name_of(alloc, word)?)?;
+        names.push(name_of(alloc, word)?);
     }
-    Ok(names)
+    Ok(names.into_seq())
 }
 
 /// The name in the line, and the names behind it, where the line has at least n words.
@@ -159,11 +159,11 @@ fn tests_of(alloc: Global, words: &[Word]) -> Result<Seq<PTest>, ReadFaults>
     requires { All FitsWord words.now }
     ensures { Gives (λ tests. tests) result (each test_of words.now) }
 {
-    let mut tests = Seq::new(alloc);
+    let mut tests = Reserved::new(alloc, words.len())?;
     for word in words {
-        tests.push(test_of(alloc, word)?)?;
+        tests.push(test_of(alloc, word)?);
     }
-    Ok(tests)
+    Ok(tests.into_seq())
 }
 
 /// The assignments that the words are.
@@ -171,11 +171,11 @@ fn sets_of(alloc: Global, words: &[Word]) -> Result<Seq<PSet>, ReadFaults>
     requires { All FitsWord words.now }
     ensures { Gives (λ sets. sets) result (each set_of words.now) }
 {
-    let mut sets = Seq::new(alloc);
+    let mut sets = Reserved::new(alloc, words.len())?;
     for word in words {
-        sets.push(set_of(alloc, word)?)?;
+        sets.push(set_of(alloc, word)?);
     }
-    Ok(sets)
+    Ok(sets.into_seq())
 }
 
 /// The case of the line.

@@ -1,3 +1,4 @@
+use Rattle.std.proofs.Common.{arith}
 use Rattle.std.proofs.lemmas.Result.{err_from_is_err_and}
 use Rattle.nego_base.specs.LineWalk.{each}
 use Rattle.nego_reader.specs.Reading.{name_of}
@@ -6,12 +7,14 @@ use Rattle.nego_reader.proofs.lines.names_of.Goals as goal
 
 pub returns-in_err-name_of : goal.returns-in_err-name_of
 returns-in_err-name_of c =
-    let p = err_from_is_err_and c.from_residual.result c.from_residual.ensures.1 in
-    rw (p.1, p.2) (each_stops name_of c.in_err-name_of.field-0.0 c.loop-word.names c.args.words.now c.loop-word.word-index c.word-item.result (each name_of c.args.words.now) c.loop-word-test.true c.word-item.is c.in_err-name_of.ensures c.loop-word.invariant)
+    let p = err_from_is_err_and c.from_residual-in_err-name_of.result c.from_residual-in_err-name_of.ensures.1 in
+    rw (p.1, p.2) (each_stops name_of c.in_err-name_of.field-0.0 c.loop-word.names.items c.args.words.now c.loop-word.word-index c.word-item.result (each name_of c.args.words.now) c.loop-word-test.true c.word-item.is c.in_err-name_of.ensures c.loop-word.invariant.told)
 
 pub loop-word-preserved : goal.loop-word-preserved
-loop-word-preserved c =
-    rw c.in_ok-push.ensures.ok (each_goes_on name_of c.loop-word.names c.args.words.now c.loop-word.word-index c.word-item.result c.in_ok-name_of.field-0 (each name_of c.args.words.now) c.loop-word-test.true c.word-item.is c.in_ok-name_of.ensures c.loop-word.invariant)
+loop-word-preserved c = record {
+  told = rw c.push.ensures.items (each_goes_on name_of c.loop-word.names.items c.args.words.now c.loop-word.word-index c.word-item.result c.in_ok-name_of.field-0 (each name_of c.args.words.now) c.loop-word-test.true c.word-item.is c.in_ok-name_of.ensures c.loop-word.invariant.told);
+  room = omega (arith, c.push.ensures.room, c.loop-word.invariant.room, c.loop-word-test.true);
+}
 
 pub returns : goal.returns
-returns c = each_done name_of c.loop-word.names c.args.words.now c.loop-word.word-index (each name_of c.args.words.now) c.loop-word-test.false c.loop-word.invariant
+returns c = rw c.into_seq.ensures (each_done name_of c.loop-word.names.items c.args.words.now c.loop-word.word-index (each name_of c.args.words.now) c.loop-word-test.false c.loop-word.invariant.told)

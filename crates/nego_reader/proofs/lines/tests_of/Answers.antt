@@ -1,3 +1,4 @@
+use Rattle.std.proofs.Common.{arith}
 use Rattle.std.proofs.lemmas.Result.{err_from_is_err_and}
 use Rattle.nego_base.specs.LineWalk.{each}
 use Rattle.nego_reader.specs.Reading.{test_of}
@@ -6,12 +7,14 @@ use Rattle.nego_reader.proofs.lines.tests_of.Goals as goal
 
 pub returns-in_err-test_of : goal.returns-in_err-test_of
 returns-in_err-test_of c =
-    let p = err_from_is_err_and c.from_residual.result c.from_residual.ensures.1 in
-    rw (p.1, p.2) (each_stops test_of c.in_err-test_of.field-0.0 c.loop-word.tests c.args.words.now c.loop-word.word-index c.word-item.result (each test_of c.args.words.now) c.loop-word-test.true c.word-item.is c.in_err-test_of.ensures c.loop-word.invariant)
+    let p = err_from_is_err_and c.from_residual-in_err-test_of.result c.from_residual-in_err-test_of.ensures.1 in
+    rw (p.1, p.2) (each_stops test_of c.in_err-test_of.field-0.0 c.loop-word.tests.items c.args.words.now c.loop-word.word-index c.word-item.result (each test_of c.args.words.now) c.loop-word-test.true c.word-item.is c.in_err-test_of.ensures c.loop-word.invariant.told)
 
 pub loop-word-preserved : goal.loop-word-preserved
-loop-word-preserved c =
-    rw c.in_ok-push.ensures.ok (each_goes_on test_of c.loop-word.tests c.args.words.now c.loop-word.word-index c.word-item.result c.in_ok-test_of.field-0 (each test_of c.args.words.now) c.loop-word-test.true c.word-item.is c.in_ok-test_of.ensures c.loop-word.invariant)
+loop-word-preserved c = record {
+  told = rw c.push.ensures.items (each_goes_on test_of c.loop-word.tests.items c.args.words.now c.loop-word.word-index c.word-item.result c.in_ok-test_of.field-0 (each test_of c.args.words.now) c.loop-word-test.true c.word-item.is c.in_ok-test_of.ensures c.loop-word.invariant.told);
+  room = omega (arith, c.push.ensures.room, c.loop-word.invariant.room, c.loop-word-test.true);
+}
 
 pub returns : goal.returns
-returns c = each_done test_of c.loop-word.tests c.args.words.now c.loop-word.word-index (each test_of c.args.words.now) c.loop-word-test.false c.loop-word.invariant
+returns c = rw c.into_seq.ensures (each_done test_of c.loop-word.tests.items c.args.words.now c.loop-word.word-index (each test_of c.args.words.now) c.loop-word-test.false c.loop-word.invariant.told)
