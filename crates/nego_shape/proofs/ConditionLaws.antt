@@ -1,11 +1,13 @@
 -- The conditions of the shape in their order, and the form of what has the shape.
-use Rattle.std.proofs.Common.{◌≡◌, ℕ, ◌+◌, ◌<◌, ◌≤◌, zero, suc, List, [], ◌∷◌, ◌++◌, length, take, drop, refl, sym, subst, arith}
+use Rattle.std.proofs.Common.{◌≡◌, ℕ, ◌+◌, ◌<◌, ◌≤◌, zero, suc, inl, inr, List, [], ◌∷◌, ◌++◌, length, take, drop, refl, sym, subst, ◌∙◌, arith}
 use Rattle.std.specs.List.{All}
+use Rattle.std.proofs.lemmas.Bool.{cases_lt}
 use Rattle.std.proofs.lemmas.List.{length-map}
 use Rattle.std.proofs.lemmas.List.Elements.{All-nil, All-cons}
 use Rattle.nego_reader.specs.Content.{Content, AgentContent}
 use Rattle.nego_shape.specs.declared.fault.ShapeKind.{ShapeKind}
 use Rattle.nego_shape.specs.Naming.{sizes_in}
+use Rattle.nego_shape.proofs.FlatPairs.{only_place}
 use Rattle.nego_shape.specs.Conditions.{Condition, SomeAgent, FewAgents, FewAtoms, FewOutcomes, NamedOnce, AllDeclared, SomeParty, SomeOutcome, AllBegin, AllEnd, AllSent, NoStranger, LastEnds, PartiesAlone, NoZeroSize, NoLargeSize, NoLargeJoint, NoLargeValue, AllCovered, conditions, Holds, HasShape, condition_of, IsFirstBroken, IsFormed}
 
 -- ---- the order
@@ -82,9 +84,65 @@ first_at c condition met broken = record {
   broken = broken;
 }
 
+-- ---- the condition is one
+
+-- what holds of those before an item holds of each that stands before it in a list of different items
+before_both : (C D : Condition) (before behind before' behind' : List Condition) → before ++ C ∷ behind ≡ before' ++ D ∷ behind' → length before < length before' → (P : Condition → Type 0) → All P before' → P C
+before_both C D [] behind (x ∷ xs) behind' e l P h = let same : C ≡ x = cc in subst P (sym same) (h 0 x (omega arith))
+before_both C D [] behind [] behind' e l P h = absurd (omega (arith, l))
+before_both C D (y ∷ ys) behind [] behind' e l P h = absurd (omega (arith, l))
+before_both C D (y ∷ ys) behind (x ∷ xs) behind' e l P h = (let rest : ys ++ C ∷ behind ≡ xs ++ D ∷ behind' = cc in before_both C D ys behind xs behind' rest (omega (arith, l)) P (λ k d m. h (suc k) d (omega (arith, m))))
+
+same_place : (C D : Condition) (before behind before' behind' : List Condition) → before ++ C ∷ behind ≡ before' ++ D ∷ behind' → length before ≡ length before' → C ≡ D
+same_place C D [] behind [] behind' e l = cc
+same_place C D [] behind (x ∷ xs) behind' e l = absurd (omega (arith, l))
+same_place C D (y ∷ ys) behind [] behind' e l = absurd (omega (arith, l))
+same_place C D (y ∷ ys) behind (x ∷ xs) behind' e l = (let rest : ys ++ C ∷ behind ≡ xs ++ D ∷ behind' = cc in same_place C D ys behind xs behind' rest (omega (arith, l)))
+
+pub one_condition : (c : Content) (C D : Condition) → IsFirstBroken c C → IsFirstBroken c D → C ≡ D
+one_condition c C D h k =
+    let orders = sym h.order ∙ k.order in
+    same_place C D h.before h.behind k.before k.behind orders (only_place (length h.before) (length k.before)
+    (λ less. h.broken (before_both C D h.before h.behind k.before k.behind orders less (λ other. Holds other c) k.met))
+    (λ less. k.broken (before_both D C k.before k.behind h.before h.behind (sym orders) less (λ other. Holds other c) h.met)))
+
+-- as many conditions stand before one as its place says
+before_count : (C : Condition) → length (take (place C) conditions) ≡ place C
+before_count SomeAgent = refl
+before_count FewAgents = refl
+before_count FewAtoms = refl
+before_count FewOutcomes = refl
+before_count NamedOnce = refl
+before_count AllDeclared = refl
+before_count SomeParty = refl
+before_count SomeOutcome = refl
+before_count AllBegin = refl
+before_count AllEnd = refl
+before_count AllSent = refl
+before_count NoStranger = refl
+before_count LastEnds = refl
+before_count PartiesAlone = refl
+before_count NoZeroSize = refl
+before_count NoLargeSize = refl
+before_count NoLargeJoint = refl
+before_count NoLargeValue = refl
+before_count AllCovered = refl
+
+-- a condition that stands before the first that is broken is met
+pub met_before : (c : Content) (C D : Condition) → IsFirstBroken c C → place D < place C → Holds D c
+met_before c C D h less = elim (cases_lt (length h.before) (place C)) [
+  | inl short ↦
+      let own : place C < place C =
+      before_both C C h.before h.behind (take (place C) conditions) (drop (place C + 1) conditions) (sym h.order ∙ order_at C) (let count = before_count C in omega (arith, short, count)) (λ other. place other < place C)
+      (all_before (λ other. place other < place C) 0 (place C) conditions placed (λ other l. omega (arith, l))) in
+      absurd (omega (arith, own))
+  | inr long ↦
+      before_both D C (take (place D) conditions) (drop (place D + 1) conditions) h.before h.behind (sym (order_at D) ∙ h.order) (let count = before_count D in omega (arith, less, long, count)) (λ other. Holds other c) h.met
+]
+
 -- ---- the form
 
-sizes-count : (c : Content) → length (sizes_in c) ≡ length c.agents
+pub sizes-count : (c : Content) → length (sizes_in c) ≡ length c.agents
 sizes-count c = length-map c.agents (λ (agent : AgentContent). agent.size)
 
 pub shape_form : (c : Content) → HasShape c → IsFormed c

@@ -12,9 +12,6 @@ use Rattle.nego_reader.specs.declared.parsed.POut.{POut}
 use Rattle.nego_reader.specs.Content.{OutContent, content_of, out_content}
 use Rattle.nego_shape.specs.declared.checks.outcomes.Rule.TheVariants as rules
 use Rattle.nego_shape.specs.declared.fault.ShapeKind.TheVariants as kinds
-use Rattle.nego_shape.specs.declared.fault.ShapeAnswer.{ShapeAnswer}
-use Rattle.nego_shape.specs.declared.fault.ShapeAnswer.TheVariants as answers
-use Rattle.nego_shape.specs.Answer.{HasCause, LacksShape}
 use Rattle.nego_shape.specs.Naming.{sizes_in, cases_in}
 use Rattle.nego_shape.specs.Conditions.{AllCovered, IsFormed, HasShape}
 use Rattle.nego_shape.specs.Shaped.{IsAllCovered}
@@ -66,8 +63,3 @@ pub faultless_shape : (p : Parsed) → HasShape (content_of p) → shape_fault p
 faultless_shape p h =
     none_or_none (form_fault p) (not_total p) (none_of_form p (shape_form (content_of p) h))
     (none_partial p 0 p.atoms (λ k d l. each_placed (λ n (out : OutContent). IsAllCovered (content_of p) out) p (h AllCovered) k (get_or p.atoms k d) (slice_get-get_or p.atoms k d l)))
-
--- so a text that has a fault hasn't the shape
-pub lacks_shape : (p : Parsed) (e : ShapeAnswer) → HasCause e p → LacksShape e p
-lacks_shape p answers.Memory h = tt
-lacks_shape p (answers.Off fault) h = λ shaped. none-some fault (sym (faultless_shape p shaped) ∙ h)

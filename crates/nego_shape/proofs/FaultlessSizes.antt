@@ -24,11 +24,16 @@ use Rattle.nego_shape.specs.declared.fault.ShapeFault.{ShapeFault}
 use Rattle.nego_shape.specs.declared.fault.ShapeKind.{ShapeKind}
 use Rattle.nego_shape.specs.declared.fault.ShapeKind.TheVariants as kinds
 use Rattle.nego_shape.specs.Faults.{fault_on, zero_size, size_too_large, joint_from, joint_too_large, size_fault}
-use Rattle.nego_shape.specs.Laws.{kind_of}
 use Rattle.nego_shape.proofs.FirstLaws.{or_found, or_missed}
 use Rattle.nego_shape.proofs.PartsMade.{sizes_read}
 use Rattle.nego_shape.proofs.FaultlessSearches.{none_if}
 use Rattle.nego_shape.proofs.FaultlessCases.{not_above, first_factor, none_zero, none_large, none_of_bounds}
+
+-- the kind of fault of shape that a fault of sizes is
+abbrev pub kind_of : SizeFault → ShapeKind
+kind_of (faults.ZeroSize a) = kinds.ZeroSize a
+kind_of (faults.SizeTooLarge a) = kinds.SizeTooLarge a
+kind_of (faults.JointTooLarge a) = kinds.JointTooLarge a
 
 -- the first item of which something is given
 first_at : {A B : Type 0} (f : ℕ → A → Option B) (n : ℕ) (xs : List A) (i : ℕ) (d : A) (y : B) → i < length xs → ((k : ℕ) → k < i → f (n + k) (get_or xs k d) ≡ None) → f (n + i) (get_or xs i d) ≡ Some y → first_numbered f n xs ≡ Some y

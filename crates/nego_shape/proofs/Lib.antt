@@ -40,6 +40,13 @@ pub mod Tellings
 pub mod Ranks
 pub mod KindRanks
 pub mod FirstBroken
-pub mod ToldTwice
-pub mod ToldUnknown
-pub mod ToldFaults
+pub mod FlatPairs
+pub mod RisingText
+pub mod KindLaws
+pub mod FirstWords
+pub mod TextWords
+pub mod TwiceWords
+pub mod UndeclaredWords
+pub mod Breaches
+pub mod FirstFaults
+pub mod OneFault

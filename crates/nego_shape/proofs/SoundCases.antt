@@ -42,10 +42,10 @@ use Rattle.nego_shape.proofs.SoundPlaces.{Keeps, kept_by, party_from, by_placed,
 use Rattle.nego_shape.proofs.SoundRules.{no_agent_so}
 
 -- a word with these bytes is named by the test
-abbrev Named : (Word → Bool) → List ℕ → Type 0
+abbrev pub Named : (Word → Bool) → List ℕ → Type 0
 Named test name = (word : Word) → word.text ≡ name → test word ≡ true
 
-same_word : (word other : Word) → word.text ≡ other.text → same word other ≡ true
+pub same_word : (word other : Word) → word.text ≡ other.text → same word other ≡ true
 same_word word other e = (bytes_eq-Decides other.text word.text).1 (sym e)
 
 weaker : (p q : Word → Bool) → ((word : Word) → p word ≡ true → q word ≡ true) → (names : List (List ℕ)) → All (Named p) names → All (Named q) names
@@ -87,7 +87,7 @@ sets_named (set ∷ sets) =
     (weaker (λ word. set_names word set) (λ word. list_any (set_names word) (set ∷ sets)) (λ word k. or_left (set_names word set) (list_any (set_names word) sets) k) (shaped.set_names (set_content set)) (set_named set))
     (weaker (λ word. list_any (set_names word) sets) (λ word. list_any (set_names word) (set ∷ sets)) (λ word k. or_right (set_names word set) (list_any (set_names word) sets) k) (flat_map shaped.set_names (map set_content sets)) (sets_named sets))
 
-case_named : (c : PCase) → All (Named (λ word. case_names word c)) (shaped.case_names (case_content c))
+pub case_named : (c : PCase) → All (Named (λ word. case_names word c)) (shaped.case_names (case_content c))
 case_named c =
     All-append (Named (λ word. case_names word c)) (flat_map shaped.test_names (map test_content c.tests)) (flat_map shaped.set_names (map set_content c.sets))
     (weaker (λ word. list_any (test_names word) c.tests) (λ word. case_names word c) (λ word k. or_left (list_any (test_names word) c.tests) (list_any (set_names word) c.sets) k) (flat_map shaped.test_names (map test_content c.tests)) (tests_named c.tests))
@@ -132,7 +132,7 @@ module _ (p : Parsed) (once : AreNamedOnce (content_of p)) (known : unknown_in p
   above : (s m : ℕ) → nat_le s m ≡ false → m < s
   above s m k = grind (arith, nat_tests)
 
-  fits : (term : PTerm) (size : ℕ) → is_too_large size term ≡ false → FitsSize (term_in (content_of p) (term_content term)) size
+  pub fits : (term : PTerm) (size : ℕ) → is_too_large size term ≡ false → FitsSize (term_in (content_of p) (term_content term)) size
   fits terms.Any size h = tt
   fits (terms.Number n) size h = above size n h
   fits (terms.Plus name n) size h = tt

@@ -31,7 +31,7 @@ use Rattle.nego_shape.proofs.Outs.{All-outs}
 use Rattle.nego_shape.proofs.Sought.{position_or_len-map}
 
 -- a test that some item passes has a first place
-found : {A : Type 0} (p : A → Bool) (xs : List A) → list_any p xs ≡ true → position_or_len p xs < length xs
+pub found : {A : Type 0} (p : A → Bool) (xs : List A) → list_any p xs ≡ true → position_or_len p xs < length xs
 found p [] h = absurd (false≢true h)
 found p (x ∷ xs) h = go (p x) refl (found p xs)
   where

@@ -9,10 +9,9 @@ use Rattle.nego_shape.specs.declared.fault.ShapeKind.{ShapeKind}
 use Rattle.nego_shape.specs.declared.fault.ShapeKind.TheVariants as kinds
 use Rattle.nego_shape.specs.declared.fault.ShapeAnswer.{ShapeAnswer}
 use Rattle.nego_shape.specs.declared.fault.ShapeAnswer.TheVariants as answers
-use Rattle.nego_shape.specs.Faults.{shape_fault}
+use Rattle.nego_shape.specs.FirstFault.{IsFirstFault}
 use Rattle.nego_shape.specs.Naming.{sizes_in}
-use Rattle.nego_shape.specs.Told.{IsSo, IsOn}
-use Rattle.nego_shape.specs.Conditions.{HasShape, condition_of, IsFirstBroken}
+use Rattle.nego_shape.specs.Conditions.{HasShape}
 
 -- the fault is this one; want of memory is free
 abbrev pub Tells : ShapeAnswer → Option ShapeFault → Type 0
@@ -21,17 +20,8 @@ Tells (answers.Off told) fault = fault ≡ Some told
 
 -- the fault is the text's first
 abbrev pub HasCause : ShapeAnswer → Parsed → Type 0
-HasCause answer p = Tells answer (shape_fault p)
-
--- The fault breaks the first condition that the text's content breaks; what it names is so; and it stands on its line.
-pub record IsFirstBreach (p : Parsed) (fault : ShapeFault) : Type 0 where
-  pub first : IsFirstBroken (content_of p) (condition_of fault.kind)
-  pub so : IsSo (content_of p) fault.kind
-  pub on : IsOn p fault.kind fault.line
-
-abbrev pub TellsBreach : ShapeAnswer → Parsed → Type 0
-TellsBreach answers.Memory p = ⊤
-TellsBreach (answers.Off fault) p = IsFirstBreach p fault
+HasCause answers.Memory p = ⊤
+HasCause (answers.Off fault) p = IsFirstFault p fault
 
 -- the text hasn't the shape of a diagram; want of memory is free
 abbrev pub LacksShape : ShapeAnswer → Parsed → Type 0

@@ -3,10 +3,10 @@ pub mod Answers
 pub mod Conditions
 pub mod ContentLaws
 pub mod Faults
+pub mod FirstFault
 pub mod Laws
 pub mod Made
 pub mod Naming
 pub mod Ordering
 pub mod Shaped
-pub mod Told
 pub mod Walks

@@ -1,10 +1,9 @@
 //! The diagram of a text's value, or its first fault of shape.
 
-ghost use Rattle.std.specs.Prelude.{◌≡◌, None, IfOk, IfErr};
+ghost use Rattle.std.specs.Prelude.{◌≡◌, IfOk, IfErr};
 ghost use Rattle.nego_model.specs.Diagram.{IsDiagram};
 ghost use Rattle.nego_reader.specs.Content.{content_of};
-ghost use Rattle.nego_shape.specs.Answer.{HasCause, TellsBreach, LacksShape, HasJoint};
-ghost use Rattle.nego_shape.specs.Faults.{shape_fault};
+ghost use Rattle.nego_shape.specs.Answer.{HasCause, LacksShape, HasJoint};
 ghost use Rattle.nego_shape.specs.Naming.{diagram_in};
 ghost use Rattle.nego_shape.specs.Conditions.{HasShape};
 ghost use Rattle.nego_shape.specs.Shaped.{HasNameWords};
@@ -21,12 +20,10 @@ use std::alloc::Global;
 /// read.
 pub fn shape(alloc: Global, p: &Parsed) -> Result<Diagram, ShapeAnswer>
     requires { HasNameWords (content_of p.now) }
-    ensures ok { IfOk result (λ _. shape_fault p.now ≡ None) }
     ensures shaped { IfOk result (λ _. HasShape (content_of p.now)) }
     ensures content { IfOk result (λ d. d ≡ diagram_in (content_of p.now)) }
     ensures diagram { IfOk result IsDiagram }
     ensures err { IfErr result (λ e. HasCause e p.now) }
-    ensures told { IfErr result (λ e. TellsBreach e p.now) }
     ensures misshapen { IfErr result (λ e. LacksShape e p.now) }
     ensures joint { IfErr result (λ e. HasJoint e p.now) }
 {
