@@ -1,12 +1,15 @@
 -- How often each number is in a list, after an edit of the list.
-use Rattle.std.proofs.Common.{◌≡◌, ◌≢◌, ⊎_elim, ℕ, zero, suc, ◌+◌, ◌<◌, ◌≤◌, ◌==◌, not, cond, Bool, true, false, List, [], ◌∷◌, ◌++◌, length, replicate, slice_get, Some, refl, sym, subst, ap, ◌∙◌, arith, eq-eqb, ne_eqb, eqb-true}
+use Rattle.std.proofs.Common.{◌≡◌, ◌≢◌, ⊎_elim, ℕ, zero, suc, ◌+◌, ◌<◌, ◌≤◌, ◌==◌, ◌&&◌, IsTrue, not, cond, Bool, true, false, List, [], ◌∷◌, ◌++◌, length, replicate, slice_get, Some, refl, sym, subst, ap, ◌∙◌, arith, eq-eqb, ne_eqb, eqb-true}
 use Rattle.std.specs.Prelude.{slice_index}
 use Rattle.std.specs.List.{filter, remove}
 use Rattle.std.proofs.lemmas.Bool.{cond-true, cond-false, cases_eq}
+use Rattle.std.proofs.Math.ListN.{set}
+use Rattle.std.proofs.lemmas.List.{get_or-set_same, get_or-set_other}
 use Rattle.std.proofs.lemmas.List.Filters.{length-filter_both}
 use Rattle.std.proofs.lemmas.Option.{same_Some, slice_get_within}
-use Rattle.nego_base.specs.Members.{without_member}
-use Rattle.nego_expr.specs.WorkView.{AreCountsOf}
+use Rattle.nego_base.specs.Members.{is_in, without_member}
+use Rattle.nego_base.proofs.Members.{is_in-without}
+use Rattle.nego_expr.specs.Counts.{AreCountsOf, AreOnes}
 
 -- those of the numbers that are this one
 abbrev pub equals : ℕ → List ℕ → List ℕ
@@ -87,6 +90,28 @@ module _ (ns old new : List ℕ) (n : ℕ) (are : AreCountsOf ns old) where
   -- with none
   pub counts-clear : ((m : ℕ) → slice_index new m ≡ cond (n == m) 0 (slice_index old m)) → AreCountsOf (without_member n ns) new
   counts-clear h m = h m ∙ (ap (cond (n == m) 0) (are m) ∙ sym (length-without m n ns))
+
+-- the atoms whose count is one, where one atom has another count
+pub ones-set : (old : List ℕ) (n count : ℕ) (ones more : List ℕ) → n < length old → AreOnes old ones → ((m : ℕ) → is_in m more ≡ cond (n == m) (count == 1) (is_in m ones)) → AreOnes (set old n count) more
+ones-set old n count ones more within are h m = h m ∙ ⊎_elim
+    (λ e. cond-true (n == m) (count == 1) (is_in m ones) (eq-eqb n m e) ∙ ap (λ k. k == 1) (sym (ap (slice_index (set old n count)) (sym e) ∙ get_or-set_same old n count 0 within)))
+    (λ other. cond-false (n == m) (count == 1) (is_in m ones) (ne_eqb n m other) ∙ (are m ∙ ap (λ k. k == 1) (sym (get_or-set_other old n m count 0 (λ e. other (sym e))))))
+    (cases_eq n m)
+
+-- a member counts for one, and the others for what they count without it
+pub taken_one : (ns : List ℕ) (n m : ℕ) → IsTrue (is_in n ns) → cond (n == m) 1 0 + cond (is_in m (without_member n ns)) 1 0 ≡ cond (is_in m ns) 1 0
+taken_one ns n m there = ⊎_elim
+    (λ e.
+    let one = cond-true {A = ℕ} (n == m) 1 0 (eq-eqb n m e) in
+    let gone : is_in m (without_member n ns) ≡ false = is_in-without m n ns ∙ ap (λ b. not b && is_in m ns) (eq-eqb m n (sym e)) in
+    let zero = cond-false {A = ℕ} (is_in m (without_member n ns)) 1 0 gone in
+    let all = cond-true {A = ℕ} (is_in m ns) 1 0 (subst (λ k. IsTrue (is_in k ns)) e there) in
+    omega (arith, one, zero, all))
+    (λ other.
+    let none = cond-false {A = ℕ} (n == m) 1 0 (ne_eqb n m other) in
+    let same = ap {B = ℕ} (λ b. cond b 1 0) (is_in-without m n ns ∙ ap (λ b. not b && is_in m ns) (ne_eqb m n (λ q. other (sym q)))) in
+    omega (arith, none, same))
+    (cases_eq n m)
 
 -- what stands at a place is counted
 pub counted-there : (ns old : List ℕ) (n i : ℕ) → AreCountsOf ns old → slice_get ns i ≡ Some n → 0 < slice_index old n

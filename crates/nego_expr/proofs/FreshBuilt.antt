@@ -14,7 +14,8 @@ use Rattle.nego_model.specs.Summary.{final_outcomes}
 use Rattle.nego_expr.specs.declared.work.Work.TheInside.{Inside}
 use Rattle.nego_expr.specs.Fresh.{atoms_from, fresh_work, outcomes_of}
 use Rattle.nego_expr.specs.Sorted.{AreSlotsOf}
-use Rattle.nego_expr.specs.WorkView.{AreAlive, AreCountsOf, IsUsable, atom_among, atom_number, plain_outcome, plain_work}
+use Rattle.nego_expr.specs.WorkView.{AreAlive, IsUsable, atom_among, atom_number, plain_outcome, plain_work}
+use Rattle.nego_expr.specs.Counts.{AreCountsOf, AreEntriesOf}
 use Rattle.nego_expr.proofs.FreshLists.{rises-range, numbers-outcomes_of, All-outcomes_of}
 use Rattle.nego_expr.proofs.FreshSteps.{atoms_among-from}
 
@@ -31,6 +32,7 @@ pub record IsBuilt (diagram : PlainDiagram) (w : Inside) : Type 0 where
   pub outcomes : map plain_outcome w.outcomes.items ≡ outcomes_of diagram 0 diagram.outcomes
   pub slots : AreSlotsOf (map plain_outcome w.outcomes.items) w.slots.items
   pub counts : AreCountsOf (map atom_number w.outcomes.items) w.counts
+  pub entries : AreEntriesOf (map plain_outcome w.outcomes.items) w.entries
   pub names : w.names ≡ map (outcome_name diagram) (final_outcomes diagram)
   pub bases : w.bases ≡ map (λ outcome. parties_of diagram outcome.atom) diagram.outcomes
 
@@ -82,4 +84,5 @@ module _ (diagram : PlainDiagram) (w : Inside) (built : IsBuilt diagram w) where
         few_numbers = omega (arith, built.numbers, limits.few_outcomes);
         sorted = built.slots;
         counted = built.counts;
+        entered = built.entries;
       }

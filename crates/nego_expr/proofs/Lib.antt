@@ -4,6 +4,7 @@ pub mod BaseNodes
 pub mod Counting
 pub mod EditCalls
 pub mod EditedWorks
+pub mod Entries
 pub mod Finished
 pub mod Finishing
 pub mod FreshBuilt

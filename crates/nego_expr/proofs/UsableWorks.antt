@@ -13,7 +13,8 @@ use Rattle.nego_expr.specs.Work.{WorkOutcome, parties_among}
 use Rattle.nego_expr.specs.Edits.{with_outcome, nodes_then, with_nodes_at}
 use Rattle.nego_expr.specs.Room.{RoomyNodes, RoomyWork}
 use Rattle.nego_expr.specs.Sorted.{PlainSlot, AreSlotsOf}
-use Rattle.nego_expr.specs.WorkView.{atom_among, atom_number, plain_outcome, roomy_work, AreAlive, AreCountsOf, IsUsable}
+use Rattle.nego_expr.specs.WorkView.{atom_among, atom_number, plain_outcome, roomy_work, AreAlive, IsUsable}
+use Rattle.nego_expr.specs.Counts.{AreCountsOf, AreEntriesOf}
 use Rattle.nego_base.specs.Room.{WithRoom}
 use Rattle.nego_expr.specs.declared.outcome.Outcome.{Outcome}
 use Rattle.nego_expr.specs.declared.work.Work.TheInside.{Inside}
@@ -139,6 +140,7 @@ roomier w nodes outcomes slots n o s ok = record {
   few_numbers = ok.few_numbers;
   sorted = subst (AreSlotsOf (map plain_outcome outcomes.items)) (sym s) (subst (λ (xs : List Outcome). AreSlotsOf (map plain_outcome xs) w.slots.items) (sym o) ok.sorted);
   counted = subst (λ (xs : List Outcome). AreCountsOf (map atom_number xs) w.counts) (sym o) ok.counted;
+  entered = subst (λ (xs : List Outcome). AreEntriesOf (map plain_outcome xs) w.entries) (sym o) ok.entered;
 }
 
 -- an atom that is left has a number that a set may have
@@ -148,6 +150,10 @@ left_few w work n ok e h =
     let few : length w.parties ≤ 64 = ok.few_atoms in
     omega (arith, below, few)
 
+-- there are no more outcomes than numbers
+pub few_outcomes : (w : Inside) → IsUsable w → length (map plain_outcome w.outcomes.items) ≤ w.numbers
+few_outcomes w ok = few_alive w.agents w.numbers (length w.nodes.nodes) (map plain_outcome w.outcomes.items) ok.alive
+
 -- an atom has no more outcomes than there are numbers
 pub few_counted : (w : Inside) (n : ℕ) → IsUsable w → slice_index w.counts n ≤ w.numbers
 few_counted w n ok =
@@ -156,5 +162,5 @@ few_counted w n ok =
     let some : length (equals n (map atom_number items)) ≤ length (map atom_number items) = length-equals n (map atom_number items) in
     let atoms : length (map atom_number items) ≡ length items = length-map items atom_number in
     let seen : length (map plain_outcome items) ≡ length items = length-map items plain_outcome in
-    let all : length (map plain_outcome items) ≤ w.numbers = few_alive w.agents w.numbers (length w.nodes.nodes) (map plain_outcome items) ok.alive in
+    let all : length (map plain_outcome items) ≤ w.numbers = few_outcomes w ok in
     omega (arith, here, some, atoms, seen, all)

@@ -106,9 +106,13 @@ gone_through work n x (y ∷ ys) = record work {
   outcomes = with_outcome (through work n x y x.number (length work.nodes)) work.outcomes ++ through_from work n x work.numbers (length work.nodes + 1) ys;
 }
 
+-- whether an outcome is of another atom than this, and leads to it
+abbrev pub leads_in : ℕ → WorkOutcome → Bool
+leads_in n x = not (x.atom == n) && leads_to n x
+
 -- whether an outcome of another atom leads to the atom
 abbrev pub is_entered : PlainWork → ℕ → Bool
-is_entered work n = list_any (λ outcome. not (outcome.atom == n) && leads_to n outcome) work.outcomes
+is_entered work n = list_any (leads_in n) work.outcomes
 
 -- the work without an atom and its outcomes, where no outcome of another atom leads to it
 abbrev pub without_unentered : ℕ → PlainWork → PlainWork

@@ -1,10 +1,11 @@
 -- How the program's outcomes and works are seen, and what holds of a work's fields at every moment.
-use Rattle.std.specs.Prelude.{◌≡◌, ℕ, ◌-◌, ◌<◌, ◌≤◌, ◌==◌, List, [], length, map, filter, min, slice_index, slice_index_or, All}
+use Rattle.std.specs.Prelude.{◌≡◌, ℕ, ◌-◌, ◌<◌, ◌≤◌, List, [], length, map, min, slice_index_or, All}
 use Rattle.nego_base.specs.Members.{IsRising}
 use Rattle.nego_expr.specs.declared.outcome.Outcome.{Outcome}
 use Rattle.nego_expr.specs.declared.work.Work.TheInside.{Inside}
 use Rattle.nego_expr.specs.Work.{WorkAtom, WorkOutcome, PlainWork}
 use Rattle.nego_expr.specs.Room.{RoomyWork}
+use Rattle.nego_expr.specs.Counts.{AreCountsOf, AreEntriesOf}
 use Rattle.nego_expr.specs.Sorted.{AreSlotsOf}
 
 -- an alive outcome, without the wrapping of its numbers
@@ -49,12 +50,9 @@ pub record AreAlive (agents numbers nodes : ℕ) (outcomes : List WorkOutcome) :
   pub fit : All (λ outcome. length outcome.targets ≡ agents) outcomes
   pub there : All (λ outcome. outcome.node < nodes) outcomes
 
--- At the place of each number stands how often the number is among these.
-abbrev pub AreCountsOf : List ℕ → List ℕ → Type 0
-AreCountsOf numbers counts = (m : ℕ) → slice_index counts m ≡ length (filter (λ n. n == m) numbers)
-
 -- What holds also between two edits: agents and atoms are few, each atom that is left has an entry of parties, the
--- outcomes are alive ones, the slots are theirs, each atom has its count of them, and numbers have 32 bits.
+-- outcomes are alive ones, the slots are theirs, each atom has its count of them and of those that lead to it from others,
+-- and numbers have 32 bits.
 pub record IsUsable (w : Inside) : Type 0 where
   pub few_agents : w.agents ≤ 16
   pub few_atoms : length w.parties ≤ 64
@@ -63,3 +61,4 @@ pub record IsUsable (w : Inside) : Type 0 where
   pub few_numbers : w.numbers ≤ most_numbers
   pub sorted : AreSlotsOf (map plain_outcome w.outcomes.items) w.slots.items
   pub counted : AreCountsOf (map atom_number w.outcomes.items) w.counts
+  pub entered : AreEntriesOf (map plain_outcome w.outcomes.items) w.entries

@@ -75,6 +75,7 @@ fn two_atoms(alloc: Global) -> Result<Work, Memory> {
         outcomes: Reserved::new(alloc, 0)?,
         slots: Slots::new(alloc, 0)?,
         counts: Counts::none(),
+        entries: Counts::none(),
         names: Seq::new(alloc),
         bases: Seq::new(alloc),
     })

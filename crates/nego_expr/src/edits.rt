@@ -1,12 +1,14 @@
 //! The edits of a work. None takes memory, and each is safe after any other: the rules make their effects of them.
-ghost use Rattle.std.specs.Prelude.{◌≡◌, ◌==◌, ◌+◌, ◌-◌, ◌<◌, ◌≤◌, ◌++◌, ◌∷◌, [], All, filter, IsTrue, IsSome, Some, length, map, option_map, slice_get, slice_set};
+ghost use Rattle.std.specs.Prelude.{◌≡◌, ◌==◌, ◌+◌, ◌-◌, ◌<◌, ◌≤◌, ◌++◌, ◌∷◌, [], All, filter, not, IsTrue, IsSome, Some, length, map, option_map, slice_get, slice_set};
 ghost use Rattle.nego_base.specs.Members.{is_in};
 ghost use Rattle.nego_model.specs.Expression.{Then, children};
+ghost use Rattle.nego_expr.specs.Counts.{AreEntriesOf};
 ghost use Rattle.nego_expr.specs.Work.{outcome_at, outcomes_at};
 ghost use Rattle.nego_expr.specs.Edits.{nodes_then, then_each, with_nodes_at, with_outcome, without_atom, without_outcome};
 ghost use Rattle.nego_expr.specs.NodeView.{plain_node};
 ghost use Rattle.nego_expr.specs.WorkView.{plain_outcome};
 
+use crate::counts::Counts;
 use crate::work::place_of;
 use crate::{Node, Nodes, Outcome, Targets, Work};
 use nego_base::{AtomId, AtomSet, NodeId, OutcomeId, Reserved};
@@ -55,6 +57,7 @@ impl Work {
             passed,
         };
         self.counts.add(n);
+        self.entries.add_each(outcome.entered());
         self.slots.insert(&outcome);
         self.outcomes.push(outcome);
         number
@@ -81,6 +84,8 @@ impl Work {
             passed,
         };
         self.slots.replace(old, &new);
+        self.entries.remove_each(old.entered());
+        self.entries.add_each(new.entered());
         self.outcomes.set(i, new);
     }
 
@@ -94,6 +99,7 @@ impl Work {
         let outcome = self.outcomes.remove(i);
         self.slots.remove(&outcome);
         self.counts.remove(outcome.atom);
+        self.entries.remove_each(outcome.entered());
     }
 
     /// Takes an atom and its outcomes away.
@@ -103,6 +109,7 @@ impl Work {
         ensures kept { (self.old.spare_nodes ≤ self.new.spare_nodes) × (self.old.spare_outcomes ≤ self.new.spare_outcomes) }
     {
         self.left = self.left.without(n);
+        remove_entries(&mut self.entries, self.outcomes.as_slice(), n);
         self.outcomes.retain(|x| x.atom != n);
         self.slots.remove_atom(n);
         self.counts.clear(n);
@@ -126,6 +133,18 @@ impl Work {
         ensures kept { self.old.spare_outcomes ≤ self.new.spare_outcomes }
     {
         then_each(&mut self.nodes, &mut self.outcomes, x, n);
+    }
+}
+
+/// Takes away what the outcomes of the atom count for.
+fn remove_entries(entries: &mut Counts, outcomes: &[Outcome], n: AtomId)
+    requires { AreEntriesOf (map plain_outcome outcomes.now) entries.old }
+    ensures { AreEntriesOf (filter (λ x. not (x.atom == n.0)) (map plain_outcome outcomes.now)) entries.new }
+{
+    for x in outcomes {
+        if x.atom == n {
+            entries.remove_each(x.entered());
+        }
     }
 }
 

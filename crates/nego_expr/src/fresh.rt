@@ -5,12 +5,13 @@ ghost use Rattle.nego_model.specs.Expression.{Base};
 ghost use Rattle.nego_model.specs.Diagram.{parties_of, nexts_of, outcome_name};
 ghost use Rattle.nego_model.specs.Limits.{IsWithinLimits};
 ghost use Rattle.nego_model.specs.Summary.{final_outcomes};
+ghost use Rattle.nego_expr.specs.Counts.{AreCountsOf, AreEntriesOf};
 ghost use Rattle.nego_expr.specs.Fresh.{fresh_at, fresh_work, outcomes_of};
 ghost use Rattle.nego_expr.specs.Sorted.{AreSlotsOf};
 ghost use Rattle.nego_expr.specs.StandsFor.{HasTheRuns, IsFresh, StandsFor};
 ghost use Rattle.nego_expr.specs.Use.{most_nodes};
 ghost use Rattle.nego_expr.specs.WorkFault.{WorkFaultHolds};
-ghost use Rattle.nego_expr.specs.WorkView.{plain_outcome, AreCountsOf};
+ghost use Rattle.nego_expr.specs.WorkView.{plain_outcome};
 
 use crate::counts::Counts;
 use crate::slots::Slots;
@@ -55,6 +56,7 @@ fn build(alloc: Global, d: &Diagram) -> Result<Work, Memory>
         numbers: d.outcomes(),
         slots: slots_of(alloc, alive.as_slice())?,
         counts: counts_of(d),
+        entries: entries_of(alive.as_slice()),
         outcomes: alive,
         names: final_names(alloc, d)?,
         bases: parties_of_outcomes(alloc, d)?,
@@ -116,6 +118,18 @@ fn counts_of(d: &Diagram) -> Counts
         counts.add(d.atom_of(OutcomeId(o)));
     }
     counts
+}
+
+/// How many of them, of other atoms, lead to each atom.
+fn entries_of(outcomes: &[Outcome]) -> Counts
+    requires { length outcomes.now < 4294967295 }
+    ensures { AreEntriesOf (map plain_outcome outcomes.now) result }
+{
+    let mut entries = Counts::none();
+    for outcome in outcomes {
+        entries.add_each(outcome.entered());
+    }
+    entries
 }
 
 /// The outcome as it is alive at first.

@@ -25,7 +25,7 @@ pub use laws::{
 };
 pub use node::{Node, Nodes};
 pub use outcome::Outcome;
-pub use slots::Slot;
+pub use slots::{Slot, place_of_slot};
 pub use summary::{Final, Summary, print_summary};
 pub use targets::Targets;
 pub use uses::{RuleFault, Use, Uses, WorkFault};

@@ -1,5 +1,6 @@
 //! Alive outcomes of a work.
 ghost use Rattle.std.specs.Prelude.{◌≡◌, option_map};
+ghost use Rattle.nego_expr.specs.Counts.{AreEntered};
 ghost use Rattle.nego_expr.specs.Work.{sent_to};
 ghost use Rattle.nego_expr.specs.Use.{leads_to, send_alike, sends_all};
 ghost use Rattle.nego_expr.specs.WorkView.{plain_outcome};
@@ -51,6 +52,13 @@ impl Outcome {
         ensures { result ≡ leads_to n.0 (plain_outcome self.now) }
     {
         self.targets.lead_to(n)
+    }
+
+    /// The other atoms to which it sends agents, of those that a set may have.
+    pub(crate) fn entered(&self) -> AtomSet
+        ensures { AreEntered (plain_outcome self.now) result }
+    {
+        self.targets.others(self.atom)
     }
 
     /// Whether it and the other send each of the agents to the same atom.

@@ -105,7 +105,7 @@ impl Slots {
         ensures items { (slot : PlainSlot) → Contains self.new.items slot ↔ (Contains self.old.items slot × (slot ≢ slot_of (plain_outcome x.now))) }
         ensures room { self.new.room ≡ self.old.room + 1 }
     {
-        let i = search(self.slots.as_slice(), x).unwrap();
+        let i = place_of_slot(self.slots.as_slice(), x);
         let _ = self.slots.remove(i);
     }
 
@@ -126,6 +126,15 @@ impl Slots {
     {
         self.slots.retain(|s| s.atom != n);
     }
+}
+
+/// The place of the slot of an outcome, which is one of these rising slots.
+pub fn place_of_slot(slots: &[Slot], x: &Outcome) -> usize
+    requires rise { AllPairs IsBelow (map plain_slot slots.now) }
+    requires there { Contains (map plain_slot slots.now) (slot_of (plain_outcome x.now)) }
+    ensures { slice_get (map plain_slot slots.now) result ≡ Some (slot_of (plain_outcome x.now)) }
+{
+    search(slots, x).unwrap()
 }
 
 /// The place of the slot of an outcome, or the place where it is to stand.

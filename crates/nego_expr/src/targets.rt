@@ -1,12 +1,13 @@
 //! Where an outcome sends the agents.
-ghost use Rattle.std.specs.Prelude.{◌≡◌, ◌<◌, ◌≤◌, Some, None, replicate, length, slice_get, slice_index_or, slice_set, option_map};
+ghost use Rattle.std.specs.Prelude.{◌≡◌, ◌==◌, ◌<◌, ◌≤◌, ◌&&◌, ◌||◌, not, nat_lt, ℕ, Some, None, replicate, length, slice_get, slice_index_or, slice_set, option_map};
 ghost use Rattle.std.specs.List.{list_any};
 ghost use Rattle.std.specs.Option.{option_cmp};
 ghost use Rattle.std.specs.Ordering.{nat_cmp};
 ghost use Rattle.std.specs.Cmp.Lexicographic.{slice_cmp};
+ghost use Rattle.nego_base.specs.Members.{is_in};
 ghost use Rattle.nego_expr.specs.Use.{same_target};
 
-use nego_base::{AgentId, AtomId};
+use nego_base::{AgentId, AtomId, AtomSet};
 use smallvec::SmallVec;
 use std::alloc::Global;
 use std::cmp::Ordering;
@@ -66,6 +67,18 @@ impl Targets {
         any_is(self.entries.as_slice(), n)
     }
 
+    /// The atoms that are targets, but for the given one, and of those that a set may have.
+    pub(crate) fn others(&self, n: AtomId) -> AtomSet
+        ensures { (m : ℕ) → is_in m result ≡ (nat_lt m 64 && (not (n.0 == m) && list_any (λ target. same_target target (Some m)) self.now)) }
+    {
+        let _entries = &self.entries;
+        let mut atoms = AtomSet::none();
+        for a in 0..16 {
+            atoms = with_other(atoms, self.entry(AgentId(a)), n);
+        }
+        atoms
+    }
+
     /// How these targets compare with others: agent by agent, where nothing is below each atom.
     pub fn compare(&self, other: &Targets) -> Ordering
         ensures { result ≡ slice_cmp (option_cmp nat_cmp) self.now other.now }
@@ -97,6 +110,16 @@ fn any_is(targets: &[Option<AtomId>], n: AtomId) -> bool
     ensures { result ≡ list_any (λ target. same_target (option_map (λ m. m.0) target) (Some n.0)) targets.now }
 {
     targets.iter().any(|target| is_atom(*target, n))
+}
+
+/// The atoms with the target too, where it is another than the given one, and one that a set may have.
+fn with_other(atoms: AtomSet, target: Option<AtomId>, n: AtomId) -> AtomSet
+    ensures { (m : ℕ) → is_in m result ≡ (is_in m atoms || (nat_lt m 64 && (not (n.0 == m) && same_target (option_map (λ k. k.0) target) (Some m)))) }
+{
+    match target {
+        Some(k) if k != n && k.0 < 64 => atoms.with(k),
+        _ => atoms,
+    }
 }
 
 /// Whether the target is the atom.

@@ -1,7 +1,8 @@
 //! A diagram under rewriting, and what may be asked of it.
-ghost use Rattle.std.specs.Prelude.{◌≡◌, ◌<◌, ◌≤◌, Some, None, IfSome, IfNone, slice_get, IsTrue, IsSome, length, map, is_some, option_map};
+ghost use Rattle.std.specs.Prelude.{◌≡◌, ℕ, ◌<◌, ◌≤◌, ◌==◌, Some, None, IfSome, IfNone, slice_get, IsTrue, IsSome, filter, length, map, is_some, option_map};
 ghost use Rattle.nego_base.specs.Members.{is_in, IsRising};
 ghost use Rattle.nego_expr.specs.Sorted.{plain_slot, IsSorted};
+ghost use Rattle.nego_expr.specs.Use.{leads_in};
 ghost use Rattle.nego_expr.specs.Work.{outcome_at, outcome_among, outcomes_at, sent_to, work_parties};
 ghost use Rattle.nego_expr.specs.WorkView.{plain_outcome};
 
@@ -31,6 +32,8 @@ pub struct Work {
     pub(crate) slots: Slots,
     /// How many of them each atom has.
     pub(crate) counts: Counts,
+    /// How many of them, of other atoms, lead to each atom.
+    pub(crate) entries: Counts,
     /// The names of the last atom's outcomes, in their order.
     pub(crate) names: Seq<Text>,
     /// For each outcome that was read the parties of its atom: what contracts speak of, and nothing reads.
@@ -73,6 +76,14 @@ impl Work {
         ensures { result ≡ map (λ atom. atom.number) self.now.plain.atoms }
     {
         self.left
+    }
+
+    /// Whether the atom is left. Then its number is one that a set may have.
+    pub fn is_left(&self, n: AtomId) -> bool
+        ensures value { result ≡ is_in n.0 (map (λ atom. atom.number) self.now.plain.atoms) }
+        ensures few { IsTrue result → n.0 < 64 }
+    {
+        n.0 < 64 && self.left.has(n)
     }
 
     /// The atom for which everyone is ready at first.
@@ -138,6 +149,21 @@ impl Work {
         ensures { result ≡ length (outcomes_at self.now.plain n.0) }
     {
         self.counts.count(n)
+    }
+
+    /// The atoms that have one alive outcome.
+    pub fn ones(&self) -> AtomSet
+        ensures { (n : ℕ) → is_in n result ≡ (length (outcomes_at self.now.plain n) == 1) }
+    {
+        self.counts.ones()
+    }
+
+    /// How many alive outcomes of other atoms lead to an atom that is left.
+    pub fn entered_by(&self, n: AtomId) -> u32
+        requires left { IsTrue (is_in n.0 (map (λ atom. atom.number) self.now.plain.atoms)) }
+        ensures { result ≡ length (filter (leads_in n.0) self.now.plain.outcomes) }
+    {
+        self.entries.count(n)
     }
 
     /// Whether there is an alive outcome of this number.

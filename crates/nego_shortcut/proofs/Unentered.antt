@@ -1,9 +1,9 @@
 -- An atom to which no outcome of another leads: a work without it is a work, and all else is as it was.
-use Rattle.std.proofs.Common.{◌≡◌, ◌≢◌, ⊎_elim, ℕ, zero, suc, Bool, true, false, not, ◌==◌, ◌&&◌, cond, List, [], ◌∷◌, map, slice_get, slice_index_or, Option, Some, None, IsTrue, refl, sym, subst, ◌∙◌, eq-eqb, ne_eqb}
+use Rattle.std.proofs.Common.{◌≡◌, ◌≢◌, ⊎_elim, ℕ, zero, suc, Bool, true, false, not, ◌==◌, ◌&&◌, ◌||◌, nat_lt, cond, List, [], ◌∷◌, length, map, slice_get, slice_index_or, Option, Some, None, IsTrue, refl, sym, subst, ◌∙◌, arith, eq-eqb, lt-ltb, ne_eqb}
 use Rattle.std.proofs.lemmas.Bool.{and_parts, and_cases, or_cases, or_parts, eqb-false, false≢true, true≢false, not-true, not_from_false}
 use Rattle.std.proofs.lemmas.Option.{none-some}
 use Rattle.std.proofs.lemmas.List.Elements.{All-weaker}
-use Rattle.std.specs.List.{All, list_any}
+use Rattle.std.specs.List.{All, filter, list_any}
 use Rattle.nego_base.specs.Members.{is_in}
 use Rattle.nego_expr.specs.Work.{WorkOutcome, PlainWork, outcome_at, work_parties, work_outcomes, sent_to, IsWork}
 use Rattle.nego_expr.specs.Use.{same_target, is_entered, without_unentered, leads_to}
@@ -26,6 +26,15 @@ none_sent n [] h a e = none-some n e
 none_sent n (t ∷ ts) h zero e =
     true≢false (sym (subst (λ s. IsTrue (same_target s (Some n))) (sym e) (eq-eqb n n refl)) ∙ (or_parts (same_target t (Some n)) (list_any (λ target. same_target target (Some n)) ts) h).0)
 none_sent n (t ∷ ts) h (suc a) e = none_sent n ts (or_parts (same_target t (Some n)) (list_any (λ target. same_target target (Some n)) ts) h).1 a e
+
+-- some pass a test exactly where they are counted
+pub counted_any : {A : Type 0} (p : A → Bool) (xs : List A) → nat_lt 0 (length (filter p xs)) ≡ list_any p xs
+counted_any p [] = refl
+counted_any p (x ∷ xs) = go (p x) (counted_any p xs)
+  where
+    go : (b : Bool) → nat_lt 0 (length (filter p xs)) ≡ list_any p xs → nat_lt 0 (length (cond b (x ∷ filter p xs) (filter p xs))) ≡ (b || list_any p xs)
+    go true h = lt-ltb 0 (length (x ∷ filter p xs)) (omega arith)
+    go false h = h
 
 -- where the atom is entered, an outcome of another sends an agent to it
 entered_one : (work : PlainWork) (n : ℕ) → is_entered work n ≡ true → (k : ℕ) × (z : WorkOutcome) × (a : ℕ) × (slice_get work.outcomes k ≡ Some z) × (z.atom ≢ n) × (sent_to z a ≡ Some n)

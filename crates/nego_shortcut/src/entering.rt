@@ -1,9 +1,8 @@
 //! When an outcome may enter an atom, and the shortcut.
 ghost use Rattle.std.specs.Prelude.{◌≡◌, ◌+◌, ◌<◌, ◌≤◌, ◌==◌, ◌&&◌, not, IsTrue, IfSome, Some, is_some, length, map};
-ghost use Rattle.std.specs.List.{list_any};
 ghost use Rattle.nego_base.specs.Members.{is_in};
 ghost use Rattle.nego_expr.specs.Work.{IsWork, outcome_at, outcomes_at};
-ghost use Rattle.nego_expr.specs.Use.{Shortcut, allows, entered, enters, is_entered, leads_to};
+ghost use Rattle.nego_expr.specs.Use.{Shortcut, allows, entered, enters, is_entered};
 ghost use Rattle.nego_expr.specs.Made.{IsMade};
 ghost use Rattle.nego_expr.specs.WorkView.{plain_outcome};
 
@@ -34,8 +33,8 @@ fn entering_outcome(w: &Work, o: OutcomeId, n: AtomId) -> Option<&Outcome>
     Some(x)
 }
 
-/// Whether the outcome enters the atom.
-fn enters(w: &Work, x: &Outcome, n: AtomId) -> bool
+/// Whether the alive outcome may enter the atom. Then the atom's number is one that a set may have.
+pub fn enters(w: &Work, x: &Outcome, n: AtomId) -> bool
     requires work { IsWork w.now.plain }
     requires alive { outcome_at w.now.plain x.now.number.0 ≡ Some (plain_outcome x.now) }
     ensures value { result ≡ enters w.now.plain (plain_outcome x.now) n.0 }
@@ -53,22 +52,7 @@ fn is_inner(w: &Work, n: AtomId) -> bool
         && (not (n.0 == w.now.plain.first) && not (n.0 == w.now.plain.last))) }
     ensures few { IsTrue result → n.0 < 64 }
 {
-    is_left(w, n) && n != w.first() && n != w.last()
-}
-
-/// Whether the atom is left.
-fn is_left(w: &Work, n: AtomId) -> bool
-    ensures value { result ≡ is_in n.0 (map (λ atom. atom.number) w.now.plain.atoms) }
-    ensures few { IsTrue result → n.0 < 64 }
-{
-    let mut rest = w.left();
-    while let Some(m) = rest.least() {
-        if m == n {
-            return true;
-        }
-        rest = rest.without(m);
-    }
-    false
+    w.is_left(n) && n != w.first() && n != w.last()
 }
 
 /// Makes a shortcut: the outcome becomes itself and then each outcome of the atom; with the first of these it keeps its
@@ -103,23 +87,10 @@ fn enter(w: &mut Work, x: &Outcome, n: AtomId)
     }
 }
 
-/// Whether an outcome of another atom leads to the atom.
+/// Whether an outcome of another atom leads to the atom, which is left.
 fn is_entered(w: &Work, n: AtomId) -> bool
+    requires left { IsTrue (is_in n.0 (map (λ atom. atom.number) w.now.plain.atoms)) }
     ensures { result ≡ is_entered w.now.plain n.0 }
 {
-    any_enters(w.outcomes(), n)
-}
-
-/// Whether one of the outcomes is of another atom and leads to the atom.
-fn any_enters(outcomes: &[Outcome], n: AtomId) -> bool
-    ensures { result ≡ list_any (λ x. not (x.atom.0 == n.0) && leads_to n.0 (plain_outcome x)) outcomes.now }
-{
-    outcomes.iter().any(|x| leads_in(x, n))
-}
-
-/// Whether the outcome is of another atom and leads to the atom.
-fn leads_in(x: &Outcome, n: AtomId) -> bool
-    ensures { result ≡ (not (x.now.atom.0 == n.0) && leads_to n.0 (plain_outcome x.now)) }
-{
-    x.atom != n && x.leads_to(n)
+    w.entered_by(n) > 0
 }

@@ -8,5 +8,5 @@ mod law;
 mod through;
 
 pub use closing::{can_close, close};
-pub use entering::{can_shortcut, shortcut};
+pub use entering::{can_shortcut, enters, shortcut};
 pub use law::{closing_keeps, shortcuts_keep};

@@ -22,8 +22,9 @@ pub(crate) fn go_through(w: &mut Work, x: &Outcome, n: AtomId)
 {
     let mut is_first = true;
     for i in 0..w.outcomes().len() {
-        let y = w.outcomes()[i].copy();
+        let y = &w.outcomes()[i];
         if y.atom == n {
+            let y = y.copy();
             pass(w, x, &y, n, is_first);
             is_first = false;
         }

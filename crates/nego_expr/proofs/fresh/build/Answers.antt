@@ -1,11 +1,15 @@
-use Rattle.std.proofs.Common.{◌≡◌, ◌∙◌, List, map, sym, subst, ap}
+use Rattle.std.proofs.Common.{◌≡◌, ◌∙◌, List, length, map, sym, subst, ap, arith}
+use Rattle.std.proofs.lemmas.List.{length-map}
+use Rattle.std.proofs.lemmas.List.FromFn.{length-range_with_len}
 use Rattle.std.proofs.lemmas.Simd.{map-map}
 use Rattle.nego_expr.specs.declared.outcome.Outcome.{Outcome}
 use Rattle.nego_expr.specs.declared.work.Work.TheInside.{Inside}
-use Rattle.nego_expr.specs.Fresh.{fresh_work}
+use Rattle.nego_expr.specs.Fresh.{fresh_work, outcomes_of}
 use Rattle.nego_expr.specs.Sorted.{AreSlotsOf}
-use Rattle.nego_expr.specs.WorkView.{plain_outcome, plain_work, AreCountsOf}
+use Rattle.nego_expr.specs.WorkView.{plain_outcome, plain_work}
+use Rattle.nego_expr.specs.Counts.{AreCountsOf, AreEntriesOf}
 use Rattle.nego_expr.proofs.FreshBuilt.{IsBuilt, built_work, built_usable}
+use Rattle.nego_expr.proofs.FreshLists.{numbers-outcomes_of}
 use Rattle.nego_expr.proofs.fresh.build.Goals as goal
 use Rattle.nego_expr.proofs.fresh.build.Goals.{In_ok-parties_of_outcomes}
 
@@ -22,6 +26,7 @@ fields c = record {
   outcomes = c.in_ok-alive.alive;
   slots = c.in_ok-slots_of.field-0;
   counts = c.counts_of.result;
+  entries = c.entries_of.result;
   names = c.in_ok-final_names.field-0;
   bases = c.in_ok-parties_of_outcomes.field-0;
 }
@@ -41,9 +46,20 @@ built c = record {
   outcomes = c.in_ok-alive.ensures;
   slots = subst (λ (xs : List Outcome). AreSlotsOf (map plain_outcome xs) c.in_ok-slots_of.field-0.items) c.as_slice.ensures c.in_ok-slots_of.ensures;
   counts = subst (λ ns. AreCountsOf ns c.counts_of.result) (ap (map (λ x. x.atom)) (sym c.in_ok-alive.ensures) ∙ map-map (λ x. x.atom) plain_outcome c.in_ok-alive.alive.items) c.counts_of.ensures;
+  entries = subst (λ (xs : List Outcome). AreEntriesOf (map plain_outcome xs) c.entries_of.result) c.as_slice-2.ensures c.entries_of.ensures;
   names = c.in_ok-final_names.ensures;
   bases = c.in_ok-parties_of_outcomes.ensures;
 }
+
+pub entries_of-requires : goal.entries_of-requires
+entries_of-requires c =
+    let d = c.args.d.now in
+    let items = c.as_slice-2.result.now in
+    let seen = length-map items plain_outcome in
+    let same : map plain_outcome items ≡ outcomes_of d 0 d.outcomes = ap (map plain_outcome) c.as_slice-2.ensures ∙ c.in_ok-alive.ensures in
+    let numbers = length-map (map plain_outcome items) (λ x. x.number) in
+    let all : length (map (λ x. x.number) (map plain_outcome items)) ≡ length d.outcomes = ap (λ xs. length (map (λ x. x.number) xs)) same ∙ (ap length (numbers-outcomes_of d 0 d.outcomes) ∙ length-range_with_len 0 (length d.outcomes)) in
+    omega (arith, seen, numbers, all, c.agents-agents.ensures.limits.few_outcomes)
 
 pub invariant_of-result : goal.invariant_of-result
 invariant_of-result c = c.alive.invariant

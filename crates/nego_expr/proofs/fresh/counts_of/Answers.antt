@@ -5,7 +5,7 @@ use Rattle.std.proofs.lemmas.List.FromFn.{length-map-range_with_len}
 use Rattle.std.proofs.lemmas.Simd.{map-map}
 use Rattle.nego_model.specs.Diagram.{atom_of}
 use Rattle.nego_expr.specs.Fresh.{fresh_at}
-use Rattle.nego_expr.specs.WorkView.{AreCountsOf}
+use Rattle.nego_expr.specs.Counts.{AreCountsOf}
 use Rattle.nego_expr.proofs.Counting.{counts-add, equals, length-equals}
 use Rattle.nego_expr.proofs.FreshSteps.{pushed, fresh-from}
 use Rattle.nego_expr.proofs.fresh.counts_of.Goals as goal

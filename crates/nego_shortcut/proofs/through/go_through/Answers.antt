@@ -1,4 +1,4 @@
-use Rattle.std.proofs.Common.{◌≡◌, ◌+◌, ◌<◌, true, false, ℕ, List, ◌∷◌, Some, length, slice_get, option_map, refl, sym, subst, ap, ◌∙◌, arith, eqb-true}
+use Rattle.std.proofs.Common.{◌≡◌, ◌+◌, ◌<◌, ◌≤◌, if◌then◌else◌, true, false, ℕ, List, ◌∷◌, Some, length, slice_get, option_map, refl, sym, subst, ap, ◌∙◌, arith, eqb-true}
 use Rattle.std.proofs.lemmas.Bool.{eqb-false}
 use Rattle.std.proofs.lemmas.List.{length-map}
 use Rattle.std.proofs.lemmas.Option.{same_Some, slice_get-map, slice_get_read}
@@ -9,7 +9,7 @@ use Rattle.nego_shortcut.specs.Passing.{MayPass, passed_one}
 use Rattle.nego_shortcut.proofs.ShortWorks.{IsEntry, entry_from}
 use Rattle.nego_shortcut.proofs.Passed.{IsUpTo, next_of, more_places, may_pass_next, room_next, own_passed, other_passed}
 use Rattle.nego_shortcut.proofs.through.go_through.Goals as goal
-use Rattle.nego_shortcut.proofs.through.go_through.Goals.{After-eq, then-eq, else-eq}
+use Rattle.nego_shortcut.proofs.through.go_through.Goals.{After-eq, then-eq+in-Heap-1, then-eq+in-Inline-1, else-eq}
 
 module _ (c : After-eq) where
   abbrev from : PlainWork
@@ -37,7 +37,7 @@ module _ (c : After-eq) where
   next = next_of from n x c.requires.work entry c.loop-i.i to c.loop-i.is_first c.loop-i.w.spare_nodes c.loop-i.w.spare_outcomes c.loop-i.invariant within
 
   -- what is read is what stands at the place
-  read : plain_outcome c.copy-y.result ≡ next.4
+  read : plain_outcome c.index-outcomes-i.result ≡ next.4
   read =
       let items = c.outcomes.result.now in
       let seen = length-map items plain_outcome in
@@ -48,23 +48,30 @@ module _ (c : After-eq) where
       let at : slice_get to.outcomes c.loop-i.i ≡ Some (plain_outcome c.index-outcomes-i.result) =
       ap (λ (zs : List WorkOutcome). slice_get zs c.loop-i.i) (sym c.outcomes.ensures) ∙ (slice_get-map plain_outcome items c.loop-i.i
       ∙ ap (option_map plain_outcome) (slice_get_read items (length items) c.loop-i.i c.index-outcomes-i.result refl there c.index-outcomes-i.is)) in
-      c.copy-y.ensures ∙ same_Some (plain_outcome c.index-outcomes-i.result) next.4 (sym at ∙ next.5)
+      same_Some (plain_outcome c.index-outcomes-i.result) next.4 (sym at ∙ next.5)
 
-  atom : c.copy-y.result.atom.0 ≡ next.0.atom
+  atom : c.index-outcomes-i.result.atom.0 ≡ next.0.atom
   atom = ap (λ (z : WorkOutcome). z.atom) read ∙ next.6
 
   module _ (test : c.eq.result ≡ true) where
     own : next.0.atom ≡ n
-    own = sym atom ∙ eqb-true c.copy-y.result.atom.0 n (sym c.eq.ensures ∙ test)
+    own = sym atom ∙ eqb-true c.index-outcomes-i.result.atom.0 n (sym c.eq.ensures ∙ test)
 
-    same : plain_outcome c.copy-y.result ≡ next.0
+    same : plain_outcome c.index-outcomes-i.result ≡ next.0
     same = read ∙ next.7 own
+
+    -- the work with what the outcome is passed through
+    own_more : (y : WorkOutcome) → y ≡ plain_outcome c.index-outcomes-i.result → (new : PlainWork) (nodes outcomes : ℕ) → new ≡ passed_one to n x y c.loop-i.is_first →
+        c.loop-i.w.spare_nodes ≤ nodes + 1 → c.loop-i.w.spare_outcomes ≤ outcomes + (if c.loop-i.is_first then 0 else 1) → IsUpTo from n x (c.loop-i.i + 1) new false nodes outcomes
+    own_more y is new nodes outcomes plain few_nodes few_outcomes =
+        subst (λ v. IsUpTo from n x (c.loop-i.i + 1) v false nodes outcomes) (sym (plain ∙ ap (λ z. passed_one to n x z c.loop-i.is_first) (is ∙ same)))
+        (own_passed from n x c.requires.work entry c.loop-i.i to c.loop-i.is_first c.loop-i.w.spare_nodes c.loop-i.w.spare_outcomes c.loop-i.invariant next.0 next.1 next.2 next.3 nodes outcomes own few_nodes few_outcomes)
 
 pub pass-requires-clause-pass : goal.pass-requires-clause-pass
 pass-requires-clause-pass c =
     let b = (goal.at.pass-requires-clause-pass c).After-eq in
     let k = next b in
-    subst (MayPass c.loop-i.w.plain c.args.n.0 (plain_outcome c.args.x.now)) (sym (same b c.if-eq.true))
+    subst (MayPass c.loop-i.w.plain c.args.n.0 (plain_outcome c.args.x.now)) (sym (c.copy-y.ensures ∙ same b c.if-eq.true))
     (may_pass_next (from b) (n b) (x b) c.requires.work (entry b) c.loop-i.i c.loop-i.w.plain c.loop-i.is_first c.loop-i.w.spare_nodes c.loop-i.w.spare_outcomes c.loop-i.invariant k.0 k.1 k.2 k.3 (own b c.if-eq.true))
 
 pub pass-requires-clause-spare : goal.pass-requires-clause-spare
@@ -84,15 +91,12 @@ loop-i-preserved c =
     let b = (goal.at.loop-i-preserved c).After-eq in
     let k = next b in
     elim c.if-eq.branch [
-      | then-eq w ↦
-          let mine = own b w.if-eq.true in
-          let passed = own_passed (from b) (n b) (x b) c.requires.work (entry b) c.loop-i.i c.loop-i.w.plain c.loop-i.is_first c.loop-i.w.spare_nodes c.loop-i.w.spare_outcomes c.loop-i.invariant k.0 k.1 k.2 k.3
-          w.pass.new.w.spare_nodes w.pass.new.w.spare_outcomes mine w.pass.ensures.nodes w.pass.ensures.outcomes in
-          rw (w.w-is, w.is_first-is)
-          (subst (λ v. IsUpTo (from b) (n b) (x b) (c.loop-i.i + 1) v false w.pass.new.w.spare_nodes w.pass.new.w.spare_outcomes)
-          (sym (w.pass.ensures.plain ∙ ap (λ y. passed_one c.loop-i.w.plain (n b) (x b) y c.loop-i.is_first) (same b w.if-eq.true))) passed)
+      | then-eq+in-Heap-1 w ↦
+          rw (w.w-is, w.is_first-is) (own_more b w.if-eq.true (plain_outcome w.copy-y.result) w.copy-y.ensures w.pass.new.w.plain w.pass.new.w.spare_nodes w.pass.new.w.spare_outcomes w.pass.ensures.plain w.pass.ensures.nodes w.pass.ensures.outcomes)
+      | then-eq+in-Inline-1 w ↦
+          rw (w.w-is, w.is_first-is) (own_more b w.if-eq.true (plain_outcome w.copy-y.result) w.copy-y.ensures w.pass.new.w.plain w.pass.new.w.spare_nodes w.pass.new.w.spare_outcomes w.pass.ensures.plain w.pass.ensures.nodes w.pass.ensures.outcomes)
       | else-eq w ↦
           rw (w.w-is, w.is_first-is)
           (other_passed (from b) (n b) (x b) c.requires.work (entry b) c.loop-i.i c.loop-i.w.plain c.loop-i.is_first c.loop-i.w.spare_nodes c.loop-i.w.spare_outcomes c.loop-i.invariant k.0 k.1 k.2 k.3
-          (λ e. eqb-false c.copy-y.result.atom.0 (n b) (sym c.eq.ensures ∙ w.if-eq.false) (atom b ∙ e)))
+          (λ e. eqb-false c.index-outcomes-i.result.atom.0 (n b) (sym c.eq.ensures ∙ w.if-eq.false) (atom b ∙ e)))
     ]

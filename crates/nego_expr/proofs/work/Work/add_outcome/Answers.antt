@@ -3,10 +3,12 @@ use Rattle.std.proofs.lemmas.List.{map-append}
 use Rattle.nego_expr.specs.Work.{WorkOutcome}
 use Rattle.nego_expr.specs.Room.{RoomyWork}
 use Rattle.nego_expr.specs.Sorted.{AreSlotsOf}
-use Rattle.nego_expr.specs.WorkView.{atom_number, plain_outcome, AreAlive, AreCountsOf}
+use Rattle.nego_expr.specs.WorkView.{atom_number, plain_outcome, AreAlive}
+use Rattle.nego_expr.specs.Counts.{AreCountsOf, AreEntriesOf}
 use Rattle.nego_expr.proofs.SlotsOf.{slots-add, unused_slot}
 use Rattle.nego_expr.proofs.Counting.{counts-add}
-use Rattle.nego_expr.proofs.UsableWorks.{alive-add, few_counted, left_few}
+use Rattle.nego_expr.proofs.Entries.{entries-add, entries_few}
+use Rattle.nego_expr.proofs.UsableWorks.{alive-add, few_counted, few_outcomes, left_few}
 use Rattle.nego_expr.proofs.work.Work.add_outcome.Goals as goal
 
 pub invariant_of-self : goal.invariant_of-self
@@ -30,6 +32,7 @@ invariant_of-self c =
       sorted = subst (λ os. AreSlotsOf os c.insert.new.self.items) (sym seen) (slots-add ys new w.slots.items c.insert.new.self.items c.self.invariant.sorted c.insert.ensures.items);
       counted = subst (λ ns. AreCountsOf ns c.add.new.self) (sym (ap (map atom_number) c.push.ensures.items ∙ map-append atom_number w.outcomes.items _))
           (counts-add (map atom_number w.outcomes.items) w.counts c.add.new.self c.args.n.0 c.self.invariant.counted c.add.ensures);
+      entered = subst (λ os. AreEntriesOf os c.add_each.new.self) (sym seen) (entries-add new c.entered.result c.entered.ensures ys w.entries c.self.invariant.entered c.add_each.new.self c.add_each.ensures);
     }
 
 pub add-requires-clause-atom : goal.add-requires-clause-atom
@@ -40,6 +43,15 @@ add-requires-clause-few c =
     let spare = λ (v : RoomyWork). 0 < v.spare_outcomes in
     let more = subst spare (sym c.self.view_is) c.requires.spare in
     omega (arith, more, few_counted c.self.inside c.args.n.0 c.self.invariant)
+
+pub add_each-requires : goal.add_each-requires
+add_each-requires c m there =
+    let w = c.self.inside in
+    let spare = λ (v : RoomyWork). 0 < v.spare_outcomes in
+    let more = subst spare (sym c.self.view_is) c.requires.spare in
+    let new : WorkOutcome = record { number = w.numbers; atom = c.args.n.0; targets = c.args.targets; node = c.args.node.0; passed = c.args.passed } in
+    let few = entries_few new c.entered.result c.entered.ensures (map plain_outcome w.outcomes.items) w.entries c.self.invariant.entered m there in
+    omega (arith, more, few, few_outcomes w c.self.invariant)
 
 pub returns-clause-spare : goal.returns-clause-spare
 returns-clause-spare c =

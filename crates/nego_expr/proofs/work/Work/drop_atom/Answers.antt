@@ -6,7 +6,8 @@ use Rattle.std.proofs.lemmas.List.Filters.{length-filter_both}
 use Rattle.nego_expr.specs.declared.outcome.Outcome.{Outcome}
 use Rattle.nego_expr.specs.Work.{WorkAtom, WorkOutcome}
 use Rattle.nego_expr.specs.Sorted.{AreSlotsOf}
-use Rattle.nego_expr.specs.WorkView.{atom_number, plain_outcome, plain_work, atom_among, AreAlive, AreCountsOf}
+use Rattle.nego_expr.specs.WorkView.{atom_number, plain_outcome, plain_work, atom_among, AreAlive}
+use Rattle.nego_expr.specs.Counts.{AreCountsOf, AreEntriesOf}
 use Rattle.nego_expr.proofs.Counting.{counts-clear}
 use Rattle.nego_expr.proofs.Places.{filter-seen}
 use Rattle.nego_expr.proofs.SlotsOf.{slots-without_atom}
@@ -15,6 +16,9 @@ use Rattle.nego_expr.proofs.work.Work.drop_atom.Goals as goal
 
 pub without-self-inside-requires : goal.without-self-inside-requires
 without-self-inside-requires c = left_few c.self.inside c.args.self.now c.args.n.0 c.self.invariant c.self.view_is c.requires.left
+
+pub remove_entries-requires : goal.remove_entries-requires
+remove_entries-requires c = subst (λ (xs : List Outcome). AreEntriesOf (map plain_outcome xs) c.self.inside.entries) (sym c.as_slice.ensures) c.self.invariant.entered
 
 pub clear-requires : goal.clear-requires
 clear-requires c = left_few c.self.inside c.args.self.now c.args.n.0 c.self.invariant c.self.view_is c.requires.left
@@ -42,6 +46,8 @@ invariant_of-self c =
           (slots-without_atom c.args.n.0 (map plain_outcome w.outcomes.items) w.slots.items c.remove_atom.new.self.items c.self.invariant.sorted c.remove_atom.ensures.items);
       counted = subst (λ ns. AreCountsOf ns c.clear.new.self) (sym (ap (map atom_number) (kept c) ∙ filter-seen atom_number (λ m. not (m == c.args.n.0)) w.outcomes.items))
           (counts-clear (map atom_number w.outcomes.items) w.counts c.clear.new.self c.args.n.0 c.self.invariant.counted c.clear.ensures);
+      entered = subst (λ os. AreEntriesOf os c.remove_entries.new.entries) (sym (after c))
+          (subst (λ (xs : List Outcome). AreEntriesOf (filter (λ x. not (x.atom == c.args.n.0)) (map plain_outcome xs)) c.remove_entries.new.entries) c.as_slice.ensures c.remove_entries.ensures);
     }
 
 pub returns-clause-plain : goal.returns-clause-plain

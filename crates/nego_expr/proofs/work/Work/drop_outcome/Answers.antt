@@ -4,8 +4,10 @@ use Rattle.std.specs.List.{filter}
 use Rattle.nego_expr.specs.Work.{outcome_among}
 use Rattle.nego_expr.specs.Sorted.{AreSlotsOf}
 use Rattle.std.proofs.lemmas.Option.{slice_get-map}
-use Rattle.nego_expr.specs.WorkView.{atom_number, plain_outcome, plain_work, AreAlive, AreCountsOf}
+use Rattle.nego_expr.specs.WorkView.{atom_number, plain_outcome, plain_work, AreAlive}
+use Rattle.nego_expr.specs.Counts.{AreCountsOf, AreEntriesOf}
 use Rattle.nego_expr.proofs.Counting.{counted-there, counts-remove}
+use Rattle.nego_expr.proofs.Entries.{entries-remove, entries_some}
 use Rattle.nego_expr.proofs.Places.{remove-found, remove-seen}
 use Rattle.nego_expr.proofs.SlotsOf.{slot-found, slots-without}
 use Rattle.nego_expr.proofs.UsableWorks.{alive-filter}
@@ -45,6 +47,16 @@ remove-requires-2 c =
     let b = (goal.at.remove-requires-2 c).After-remove-outcome in
     counted-there (map atom_number w.outcomes.items) w.counts (atom_number b.remove-outcome.result) b.unwrap-i.result c.self.invariant.counted (atom_there b)
 
+-- and the outcome
+outcome_there : (c : After-remove-outcome) → slice_get (map plain_outcome c.self.inside.outcomes.items) c.unwrap-i.result ≡ Some (plain_outcome c.remove-outcome.result)
+outcome_there c = slice_get-map plain_outcome c.self.inside.outcomes.items c.unwrap-i.result ∙ ap (option_map plain_outcome) c.remove-outcome.ensures.value
+
+pub remove_each-requires : goal.remove_each-requires
+remove_each-requires c m there =
+    let w = c.self.inside in
+    let b = (goal.at.remove_each-requires c).After-remove-outcome in
+    entries_some (plain_outcome b.remove-outcome.result) c.entered.result c.entered.ensures (map plain_outcome w.outcomes.items) w.entries c.self.invariant.entered b.unwrap-i.result (outcome_there b) m there
+
 pub invariant_of-self : goal.invariant_of-self
 invariant_of-self c =
     let w = c.self.inside in
@@ -60,6 +72,8 @@ invariant_of-self c =
           (slots-without (map plain_outcome w.outcomes.items) c.self.invariant.alive.rising c.args.o.0 (plain_outcome b.remove-outcome.result) (found b) w.slots.items c.self.invariant.sorted c.remove.new.self.items c.remove.ensures.items);
       counted = subst (λ ns. AreCountsOf ns c.remove-2.new.self) (sym (ap (map atom_number) b.remove-outcome.ensures.items ∙ remove-seen atom_number w.outcomes.items b.unwrap-i.result))
           (counts-remove (map atom_number w.outcomes.items) w.counts c.remove-2.new.self (atom_number b.remove-outcome.result) c.self.invariant.counted b.unwrap-i.result (atom_there b) c.remove-2.ensures);
+      entered = subst (λ os. AreEntriesOf os c.remove_each.new.self) (sym (ap (map plain_outcome) b.remove-outcome.ensures.items ∙ remove-seen plain_outcome w.outcomes.items b.unwrap-i.result))
+          (entries-remove (plain_outcome b.remove-outcome.result) c.entered.result c.entered.ensures (map plain_outcome w.outcomes.items) w.entries c.self.invariant.entered b.unwrap-i.result (outcome_there b) c.remove_each.new.self c.remove_each.ensures);
     }
 
 pub returns-clause-plain : goal.returns-clause-plain

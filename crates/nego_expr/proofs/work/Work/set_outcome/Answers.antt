@@ -1,17 +1,20 @@
-use Rattle.std.proofs.Common.{◌≡◌, ◌≢◌, ◌↔◌, ◌⊎◌, ◌<◌, ℕ, List, refl, Option, Some, length, map, option_map, slice_get, slice_index_or, sym, subst, ap, IfSome, ◌∙◌}
+use Rattle.std.proofs.Common.{◌≡◌, ◌≢◌, ◌↔◌, ◌⊎◌, ◌<◌, ℕ, List, arith, refl, Option, Some, length, map, option_map, slice_get, slice_index_or, sym, subst, ap, IfSome, ◌∙◌}
 use Rattle.std.proofs.Math.Seq.{map-set_same}
-use Rattle.std.proofs.lemmas.Option.{slice_get_read}
+use Rattle.std.proofs.lemmas.List.{map-set}
+use Rattle.std.proofs.lemmas.Option.{slice_get-map, slice_get_read}
 use Rattle.std.specs.List.{Contains}
 use Rattle.nego_expr.specs.declared.outcome.Outcome.{Outcome}
 use Rattle.nego_expr.specs.Work.{WorkOutcome, outcome_among}
 use Rattle.nego_expr.specs.Edits.{with_outcome}
 use Rattle.nego_expr.specs.Room.{RoomyWork}
 use Rattle.nego_expr.specs.Sorted.{PlainSlot, slot_of, AreSlotsOf}
-use Rattle.nego_expr.specs.WorkView.{atom_number, plain_outcome, plain_work, AreAlive, AreCountsOf}
+use Rattle.nego_expr.specs.WorkView.{atom_number, plain_outcome, plain_work, AreAlive}
+use Rattle.nego_expr.specs.Counts.{AreCountsOf, AreEntriesOf}
+use Rattle.nego_expr.proofs.Entries.{entries-set, entries_room, entries_some}
 use Rattle.nego_expr.proofs.Places.{set-found}
 use Rattle.nego_expr.proofs.WorkEdits.{All-found, found-number}
 use Rattle.nego_expr.proofs.SlotsOf.{slot-found, slots-set}
-use Rattle.nego_expr.proofs.UsableWorks.{alive-set}
+use Rattle.nego_expr.proofs.UsableWorks.{alive-set, few_outcomes}
 use Rattle.nego_expr.proofs.work.Work.set_outcome.Goals as goal
 use Rattle.nego_expr.proofs.work.Work.set_outcome.Goals.{After-index-outcomes-i}
 
@@ -36,6 +39,11 @@ read c = subst (λ (xs : List Outcome). c.index-outcomes-i.result ≡ slice_inde
 found : (c : After-index-outcomes-i) → outcome_among (map plain_outcome c.self.inside.outcomes.items) c.args.o.0 ≡ Some (old c)
 found c = sym (place c) ∙ ap (option_map plain_outcome) (slice_get_read c.self.inside.outcomes.items (length c.self.inside.outcomes.items) c.unwrap-i.result c.index-outcomes-i.result refl (there c) (read c))
 
+at : (c : After-index-outcomes-i) → slice_get (map plain_outcome c.self.inside.outcomes.items) c.unwrap-i.result ≡ Some (old c)
+at c =
+    let items = c.self.inside.outcomes.items in
+    slice_get-map plain_outcome items c.unwrap-i.result ∙ ap (option_map plain_outcome) (slice_get_read items (length items) c.unwrap-i.result c.index-outcomes-i.result refl (there c) (read c))
+
 -- the outcomes after the edit
 after : (c : goal.After-set) → map plain_outcome c.set.new.self.items ≡ with_outcome (new (goal.at.invariant_of-self c).After-index-outcomes-i) (map plain_outcome c.self.inside.outcomes.items)
 after c =
@@ -51,6 +59,19 @@ replace-requires c =
     let w = c.self.inside in
     let b = (goal.at.replace-requires c).After-index-outcomes-i in
     slot-found (map plain_outcome w.outcomes.items) c.self.invariant.alive.rising c.args.o.0 (old b) (found b) w.slots.items c.self.invariant.sorted
+
+pub remove_each-requires : goal.remove_each-requires
+remove_each-requires c m in_old =
+    let w = c.self.inside in
+    let b = (goal.at.remove_each-requires c).After-index-outcomes-i in
+    entries_some (old b) c.entered.result c.entered.ensures (map plain_outcome w.outcomes.items) w.entries c.self.invariant.entered b.unwrap-i.result (at b) m in_old
+
+pub add_each-requires : goal.add_each-requires
+add_each-requires c m in_new =
+    let w = c.self.inside in
+    let b = (goal.at.add_each-requires c).After-index-outcomes-i in
+    let room = entries_room (old b) c.entered.result c.entered.ensures (map plain_outcome w.outcomes.items) w.entries c.self.invariant.entered b.unwrap-i.result (at b) (record (new b) { number = c.args.o.0 }) c.entered-2.result c.entered-2.ensures c.remove_each.new.self c.remove_each.ensures m in_new in
+    omega (arith, room, few_outcomes w c.self.invariant, c.self.invariant.few_numbers)
 
 pub invariant_of-self : goal.invariant_of-self
 invariant_of-self c =
@@ -73,6 +94,9 @@ invariant_of-self c =
           (subst (λ n. (slot : PlainSlot) → Contains c.replace.new.self.items slot ↔ ((Contains w.slots.items slot × (slot ≢ slot_of (old b))) ⊎ (slot ≡ slot_of (record (new b) { number = n })))) (sym same) c.replace.ensures.items));
       counted = subst (λ ns. AreCountsOf ns w.counts)
           (sym (ap (map atom_number) c.set.ensures.items ∙ map-set_same atom_number w.outcomes.items c.unwrap-i.result _ c.index-outcomes-i.result (ap atom_number (read b)))) c.self.invariant.counted;
+      entered = subst (λ os. AreEntriesOf os c.add_each.new.self) (sym (ap (map plain_outcome) c.set.ensures.items ∙ map-set plain_outcome w.outcomes.items c.unwrap-i.result _))
+          (entries-set (old b) c.entered.result c.entered.ensures outcomes w.entries c.self.invariant.entered b.unwrap-i.result (at b) (record (new b) { number = c.args.o.0 }) c.entered-2.result c.entered-2.ensures
+          c.remove_each.new.self c.remove_each.ensures c.add_each.new.self c.add_each.ensures);
     }
 
 pub returns-clause-plain : goal.returns-clause-plain

@@ -2,7 +2,9 @@ use Rattle.std.proofs.Common.{◌↔◌, length, map, sym, subst, ap, ◌∙◌}
 use Rattle.std.specs.List.{Contains}
 use Rattle.nego_expr.specs.Sorted.{PlainSlot, slot_of}
 use Rattle.std.proofs.lemmas.Simd.{map-map}
-use Rattle.nego_expr.specs.WorkView.{plain_outcome, AreCountsOf}
+use Rattle.nego_expr.specs.WorkView.{plain_outcome}
+use Rattle.nego_expr.specs.Counts.{AreCountsOf, AreEntriesOf}
+use Rattle.nego_expr.proofs.Entries.{entries-with_nodes_at}
 use Rattle.nego_expr.proofs.SlotsOf.{atoms-with_nodes_at, slots-with_nodes_at}
 use Rattle.nego_expr.proofs.UsableWorks.{alive-then_each}
 use Rattle.nego_expr.proofs.work.Work.then_each.Goals as goal
@@ -23,4 +25,5 @@ invariant_of-self c =
           (sym (sym (map-map (λ x. x.atom) plain_outcome c.then_each.new.outcomes.items)
           ∙ (ap (map (λ x. x.atom)) c.then_each.ensures.outcomes
           ∙ (atoms-with_nodes_at c.args.n.0 (length w.nodes.nodes) (map plain_outcome w.outcomes.items) ∙ map-map (λ x. x.atom) plain_outcome w.outcomes.items)))) c.self.invariant.counted;
+      entered = subst (λ os. AreEntriesOf os w.entries) (sym c.then_each.ensures.outcomes) (entries-with_nodes_at c.args.n.0 (length w.nodes.nodes) (map plain_outcome w.outcomes.items) w.entries c.self.invariant.entered);
     }
