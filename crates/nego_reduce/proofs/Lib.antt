@@ -1,3 +1,4 @@
+pub mod AfterShortcut
 pub mod bound
 pub mod complete
 pub mod FewTests

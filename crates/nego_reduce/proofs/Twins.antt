@@ -1,5 +1,5 @@
 -- Merges in the sorted list of a work: of outcomes that merge with each other, the least two stand next to each other.
-use Rattle.std.proofs.Common.{◌≡◌, ◌⊎◌, inl, inr, ⊎_elim, ℕ, suc, ◌+◌, ◌<◌, ◌≤◌, Bool, true, false, not, ◌==◌, ◌&&◌, List, [], ◌∷◌, length, map, slice_get, slice_index_or, get_or, Option, Some, None, option_map, IsTrue, IfSome, IfNone, refl, sym, subst, ap, ap₂, ◌∙◌, arith, eq-eqb, ne_eqb}
+use Rattle.std.proofs.Common.{◌≡◌, ◌≢◌, ◌⊎◌, inl, inr, ⊎_elim, ℕ, suc, ◌+◌, ◌<◌, ◌≤◌, Bool, true, false, not, ◌==◌, ◌&&◌, List, [], ◌∷◌, length, map, slice_get, slice_index_or, get_or, Option, Some, None, option_map, IsTrue, IfSome, IfNone, refl, sym, subst, ap, ap₂, ◌∙◌, arith, eq-eqb, ne_eqb}
 use Rattle.std.specs.Prelude.{⊤, nat_lt, Contains}
 use Rattle.std.specs.Option.{option_cmp, MatchOption}
 use Rattle.std.specs.Ordering.{nat_cmp, ordering_then, ordering_reverse, is_eq, MatchOrdering}
@@ -7,7 +7,7 @@ use Rattle.std.specs.Cmp.{ranks, IsTotalOrder}
 use Rattle.std.specs.Cmp.Lexicographic.{slice_cmp, lists_total, options_total}
 use Rattle.std.specs.declared.cmp.Ordering.{Ordering}
 use Rattle.std.specs.declared.cmp.Ordering.TheVariants.{Less, Equal, Greater}
-use Rattle.std.proofs.lemmas.Bool.{and_from, cases_lt, false_from_ne_true, true≢false, not_from_false, lt-ltb}
+use Rattle.std.proofs.lemmas.Bool.{and_from, cases_eq, cases_lt, false_from_ne_true, true≢false, not_from_false, lt-ltb}
 use Rattle.std.proofs.lemmas.Cmp.{nat_cmp_total, tied_itself}
 use Rattle.std.proofs.lemmas.Map.Lookups.{exact_unsigned}
 use Rattle.std.proofs.lemmas.Option.{same_Some, slice_get-map, slice_get_read, get_or_from_slice_get, slice_get_within, slice_get-get_or}
@@ -25,7 +25,7 @@ use Rattle.nego_expr.proofs.WorkEdits.{All-found, found-number}
 use Rattle.nego_expr.proofs.WorkForm.{OutcomeFits, fits_from_work}
 use Rattle.nego_merge.proofs.MergeKeeps.{Merges, allowed-pair}
 use Rattle.nego_reduce.specs.Order.{IsPairBelow, IsLeastMerge, HasNoMerge}
-use Rattle.nego_reduce.specs.Twins.{AreTwins}
+use Rattle.nego_reduce.specs.Twins.{AreTwins, StandAt, NoneStandAt}
 use Rattle.nego_reduce.proofs.Guards.{merging_two}
 use Rattle.nego_reduce.proofs.Searching.{place_found}
 
@@ -191,6 +191,21 @@ module _ (work : PlainWork) (ok : IsWork work) (slots : List PlainSlot) (sorted 
       (and_from (x.0.atom == y.0.atom) (not (x.0.atom == work.last) && send_alike (work_parties work x.0.atom) x.0 y.0) (eq-eqb x.0.atom y.0.atom atoms)
       (and_from (not (x.0.atom == work.last)) (send_alike (work_parties work x.0.atom) x.0 y.0) not_last alike))
 
+  -- twins that stand at a place may be merged
+  stand_merge : (i : ℕ) (pair : OutcomeId × OutcomeId) → StandAt work.last slots i pair.0.0 pair.1.0 → IsTrue (allows work (Merge pair.0.0 pair.1.0))
+  stand_merge i pair two =
+      subst (λ p. IsTrue (allows work (Merge p pair.1.0))) two.first_is
+      (subst (λ p. IsTrue (allows work (Merge two.first.outcome p))) two.second_is (twins_merge i two.first two.second two.here two.next two.twins))
+
+  -- their pair is not below itself
+  same_pair : (i : ℕ) (pair : OutcomeId × OutcomeId) (two : StandAt work.last slots i pair.0.0 pair.1.0) (s t : PlainSlot) → slice_get slots i ≡ Some s → slice_get slots (i + 1) ≡ Some t → IsPairBelow s.outcome t.outcome pair.0.0 pair.1.0 → ⊥
+  same_pair i pair two s t h k lower =
+      let first = ap (λ z. z.outcome) (same_Some s two.first (sym h ∙ two.here)) in
+      let second = ap (λ z. z.outcome) (same_Some t two.second (sym k ∙ two.next)) in
+      let first_is = two.first_is in
+      let second_is = two.second_is in
+      ⊎_elim (λ l. let no_more : ⊥ = omega (arith, l, first, first_is) in no_more) (λ l. let m = l.1 in let no_more : ⊥ = omega (arith, m, second, second_is) in no_more) lower
+
   -- outcomes that may be merged have the same targets
   merging_alike : (x y : WorkOutcome) → Merges work x y → x.targets ≡ y.targets
   merging_alike x y m = same_targets x.targets y.targets (long x m.first ∙ sym (long y m.second)) agree
@@ -295,6 +310,83 @@ module _ (work : PlainWork) (ok : IsWork work) (slots : List PlainSlot) (sorted 
       let within = slice_get_within slots (q.0 + 1) q.2 q.4 in
       h q.0 q.1 q.2 (omega (arith, all, within)) q.3 q.4 q.5)
   found_no_merge i (Some pair) all h = tt
+
+  -- ---- the twins of one outcome
+
+  -- the slot of an alive outcome is one of them
+  pub slot_there : (x : WorkOutcome) → outcome_at work x.number ≡ Some x → Contains slots (slot_of x)
+  slot_there x h = let k = place_found work.outcomes x.number x h in (sorted.same (slot_of x)).1 (slot_among work.outcomes k.0 x k.1)
+
+  module _ (x : WorkOutcome) (alive : outcome_at work x.number ≡ Some x) (others : (p q : ℕ) → p ≢ x.number → q ≢ x.number → allows work (Merge p q) ≡ false) (i : ℕ) (at : slice_get slots i ≡ Some (slot_of x)) where
+    -- a slot of its number stands only there
+    its_place : (j : ℕ) (s : PlainSlot) → slice_get slots j ≡ Some s → s.outcome ≡ x.number → j ≡ i
+    its_place j s h e = ⊎_elim
+        (λ l. absurd (let n = lesser_number s (slot_of x) atoms targets (below j i s (slot_of x) l h at) in let no_more : ⊥ = omega (arith, n, e) in no_more))
+        (λ l. ⊎_elim
+        (λ m. absurd (let n = lesser_number (slot_of x) s (sym atoms) (sym targets) (below i j (slot_of x) s m at h) in let no_more : ⊥ = omega (arith, n, e) in no_more))
+        (λ m. omega (arith, l, m))
+        (cases_lt i j))
+        (cases_lt j i)
+      where
+        same : s ≡ slot_of x
+        same = let z = alive_of j s h in z.2 ∙ ap slot_of (same_Some z.0 x (sym z.1 ∙ (ap (outcome_at work) e ∙ alive)))
+
+        atoms : s.atom ≡ x.atom
+        atoms = ap (λ t. t.atom) same
+
+        targets : s.targets ≡ x.targets
+        targets = ap (λ t. t.targets) same
+
+    -- twins are its neighbours
+    beside_it : (j : ℕ) (s t : PlainSlot) → slice_get slots j ≡ Some s → slice_get slots (j + 1) ≡ Some t → AreTwins work.last s t → (j ≡ i) ⊎ (j + 1 ≡ i)
+    beside_it j s t h k twins = ⊎_elim
+        (λ e. inl (its_place j s h e))
+        (λ first. ⊎_elim
+        (λ e. inr (its_place (j + 1) t k e))
+        (λ second. absurd (true≢false (sym (twins_merge j s t h k twins) ∙ others s.outcome t.outcome first second)))
+        (cases_eq t.outcome x.number))
+        (cases_eq s.outcome x.number)
+
+    module _ (before : (j : ℕ) → j + 1 ≡ i → NoneStandAt work.last slots j) where
+      -- none are on either side
+      pub none_beside : NoneStandAt work.last slots i → IsLeastSoFar work slots (length slots) None
+      none_beside here j s t l h k twins = ⊎_elim
+          (λ e. here s t (subst (λ n. slice_get slots n ≡ Some s) e h) (subst (λ n. slice_get slots (n + 1) ≡ Some t) e k) twins)
+          (λ e. before j e s t h k twins)
+          (beside_it j s t h k twins)
+
+      -- its slot is the first of twins
+      pub twin_behind : (pair : OutcomeId × OutcomeId) → StandAt work.last slots i pair.0.0 pair.1.0 → IsLeastSoFar work slots (length slots) (Some pair)
+      twin_behind pair two = (
+        stand_merge i pair two,
+        λ j s t l h k twins lower. ⊎_elim
+            (λ e. same_pair i pair two s t (subst (λ n. slice_get slots n ≡ Some s) e h) (subst (λ n. slice_get slots (n + 1) ≡ Some t) e k) lower)
+            (λ e. before j e s t h k twins)
+            (beside_it j s t h k twins),
+      )
+
+      -- what stands there decides
+      pub what_stands : (found : Option (OutcomeId × OutcomeId)) → IfSome found (λ pair. StandAt work.last slots i pair.0.0 pair.1.0) → IfNone found (NoneStandAt work.last slots i) → IsLeastSoFar work slots (length slots) found
+      what_stands None some none = none_beside none
+      what_stands (Some pair) some none = twin_behind pair some
+
+    -- its slot is the second of twins
+    pub twin_before : (j : ℕ) → j + 1 ≡ i → (pair : OutcomeId × OutcomeId) → StandAt work.last slots j pair.0.0 pair.1.0 → IsLeastSoFar work slots (length slots) (Some pair)
+    twin_before j next pair two = (
+      stand_merge j pair two,
+      λ m s t l h k twins lower. ⊎_elim
+          (λ e.
+          let second : s ≡ two.second = same_Some s two.second (sym h ∙ (ap (slice_get slots) (e ∙ sym next) ∙ two.next)) in
+          let is = ap (λ z. z.outcome) second in
+          let first_is = two.first_is in
+          let second_is = two.second_is in
+          let rise = lesser_number two.first two.second two.twins.one_atom two.twins.alike (below j (j + 1) two.first two.second (omega arith) two.here two.next) in
+          ⊎_elim (λ low. let no_more : ⊥ = omega (arith, low, is, first_is, second_is, rise) in no_more) (λ low. let same = low.0 in let no_more : ⊥ = omega (arith, same, is, first_is, second_is, rise) in no_more) lower)
+          (λ e.
+          let same : m ≡ j = omega (arith, e, next) in
+          same_pair j pair two s t (subst (λ n. slice_get slots n ≡ Some s) same h) (subst (λ n. slice_get slots (n + 1) ≡ Some t) same k) lower)
+          (beside_it m s t h k twins),
+    )
 
   -- ---- one place more
 

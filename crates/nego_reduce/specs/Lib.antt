@@ -1,4 +1,5 @@
 pub mod Bound
+pub mod Changed
 pub mod Laws
 pub mod Order
 pub mod Reducing

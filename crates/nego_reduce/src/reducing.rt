@@ -9,7 +9,7 @@ ghost use Rattle.nego_reduce.specs.Bound.{AreFew, most_tests};
 ghost use Rattle.nego_reduce.specs.Reducing.{IsReductionOf, IsDecided, uses_of};
 
 use crate::Reduced;
-use crate::next::{make_use, next_use};
+use crate::next::{entering, make_use, next_use};
 use nego_base::{Memory, Steps};
 use nego_expr::{RuleFault, Uses, Work};
 use std::alloc::Global;
@@ -32,7 +32,8 @@ pub fn reduce<C: Ledger>(
     ensures tests { (d : PlainDiagram) → IsFresh work.plain d → IsAcyclic (negotiation_of d) → steps.new ≤ steps.old + most_tests d }
 {
     let mut uses = Uses::new(alloc);
-    while let Some(u) = next_use(&work, steps) {
+    let mut changed = None;
+    while let Some(u) = next_use(&work, changed, steps) {
         steps.tick();
         match make_use(&mut work, u) {
             Ok(()) => uses.push(u)?,
@@ -40,6 +41,7 @@ pub fn reduce<C: Ledger>(
             Err(RuleFault::Memory) => return Err(Memory),
             Err(RuleFault::Guard) => unreachable!(),
         }
+        changed = entering(u);
     }
     if work.left().count() > 1 {
         return Ok(Reduced::Stuck(work, uses));

@@ -4,8 +4,10 @@ use Rattle.nego_base.proofs.Members.{length-without}
 use Rattle.nego_expr.specs.Use.{after_use, most_nodes}
 use Rattle.nego_expr.specs.UseView.{plain_use}
 use Rattle.nego_expr.specs.Lead.{Lead}
+use Rattle.nego_reduce.specs.Changed.{MayOffer, entering}
 use Rattle.nego_reduce.specs.Order.{IsNextUse}
 use Rattle.nego_expr.proofs.Leading.{Lead_then}
+use Rattle.nego_reduce.proofs.AfterShortcut.{may_offer}
 use Rattle.nego_reduce.proofs.Growing.{next_grows}
 use Rattle.nego_reduce.proofs.MadeNext.{made_fits, refused_full}
 use Rattle.nego_reduce.proofs.Rounds.{one_round_more, round_few, rounds_few}
@@ -39,6 +41,7 @@ loop-u-preserved g c =
     let counted = c.loop-u.invariant.counted in
     record {
       is_work = c.in-Ok.ensures.work;
+      offers = subst (MayOffer c.make_use.new.w.plain) (sym c.entering-changed.ensures) (subst (λ w. MayOffer w (entering next)) (sym is) (may_offer work next c.loop-u.invariant.is_work c.in-Some.ensures.some));
       leads = subst (λ us. Lead IsNextUse start us c.make_use.new.w.plain) (sym uses) (subst (Lead IsNextUse start (map plain_use c.loop-u.uses ++ next ∷ [])) (sym is) leads);
       counted = omega (arith, one, later, counted, count);
       tests = λ d fresh.

@@ -7,8 +7,8 @@ use Rattle.nego_reduce.proofs.LeastEntry.{least_pair_from}
 use Rattle.nego_reduce.proofs.Searching.{holds_below, holds_more, holds_always, item_at, past_all}
 use Rattle.nego_reduce.proofs.shortcuts.least_shortcut.Goals as goal
 
-pub least_entry-requires-clause-alive : goal.least_entry-requires-clause-alive
-least_entry-requires-clause-alive g c =
+pub least_entry_from-requires-clause-alive : goal.least_entry_from-requires-clause-alive
+least_entry_from-requires-clause-alive g c =
     let work = c.args.w.now.plain in
     let at = item_at work.outcomes c.outcomes-x-items.result.now c.loop-x.x-index c.x-item.result c.outcomes-x-items.ensures c.loop-x-test.true c.x-item.is in
     found-place work.outcomes c.loop-x.x-index (plain_outcome c.x-item.result) c.requires.work.numbers_rise at

@@ -2,6 +2,7 @@ use Rattle.std.proofs.Common.{sym, subst, ap, IsTrue, ◌∙◌}
 use Rattle.nego_base.specs.Members.{is_in, difference}
 use Rattle.nego_base.proofs.Members.{member_below}
 use Rattle.nego_expr.specs.WorkView.{plain_outcome}
+use Rattle.nego_shortcut.proofs.ShortShows.{shortcut_allowed}
 use Rattle.nego_reduce.proofs.LeastEntry.{many_outcomes, passed_once, only_guard}
 use Rattle.nego_reduce.proofs.shortcuts.takes_shortcut.Goals as goal
 
@@ -20,4 +21,6 @@ returns-then-not-has-clause-value g c =
 pub returns-clause-value : goal.returns-clause-value
 returns-clause-value g c =
     let new = ap (λ ns. is_in c.args.n.0 (difference ns c.args.x.now.passed)) (sym c.left.ensures) ∙ (ap (is_in c.args.n.0) (sym c.difference.ensures.value) ∙ (sym c.has.ensures.value ∙ c.if-not-has.false)) in
-    c.can_shortcut.ensures ∙ sym (only_guard c.args.w.now.plain c.requires.work (plain_outcome c.args.x.now) c.requires.alive c.args.n.0 (sym c.count_of.ensures ∙ c.if-count_of-ne1.false) new)
+    c.enters.ensures.value
+    ∙ sym (shortcut_allowed c.args.w.now.plain c.args.x.now.number.0 c.args.n.0 (plain_outcome c.args.x.now) c.requires.alive)
+    ∙ sym (only_guard c.args.w.now.plain c.requires.work (plain_outcome c.args.x.now) c.requires.alive c.args.n.0 (sym c.count_of.ensures ∙ c.if-count_of-ne1.false) new)

@@ -1,7 +1,7 @@
 use Rattle.std.proofs.Common.{◌≡◌, ◌≤◌, ◌+◌, false}
 use Rattle.nego_expr.specs.Use.{Iterate, allows}
 use Rattle.nego_reduce.proofs.Searching.{HoldsBefore}
-use Rattle.nego_reduce.proofs.iterations.least_iteration.Given as goal
+use Rattle.nego_reduce.proofs.iterations.least_of_all.Given as goal
 
 -- none so far may be iterated, and one guard was tested for each
 abbrev pub invariant-loop-x : goal.invariant-loop-x

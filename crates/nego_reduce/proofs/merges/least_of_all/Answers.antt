@@ -4,8 +4,8 @@ use Rattle.std.proofs.lemmas.List.{length-map}
 use Rattle.nego_base.specs.declared.ids.OutcomeId.{OutcomeId}
 use Rattle.nego_expr.specs.Sorted.{PlainSlot, plain_slot}
 use Rattle.nego_reduce.proofs.Twins.{IsLeastSoFar, so_far_kept, so_far_lesser, found_merge, found_no_merge, slot_at}
-use Rattle.nego_reduce.proofs.merges.least_merge.Goals as goal
-use Rattle.nego_reduce.proofs.merges.least_merge.Goals.{then-are_twins+then-is_below, else-are_twins, else-are_twins-via-then-are_twins+else-is_below, else-are_twins-via-else-are_twins}
+use Rattle.nego_reduce.proofs.merges.least_of_all.Goals as goal
+use Rattle.nego_reduce.proofs.merges.least_of_all.Goals.{then-are_twins+then-is_below, else-are_twins, else-are_twins-via-then-are_twins+else-is_below, else-are_twins-via-else-are_twins}
 
 pub loop-i-preserved : goal.loop-i-preserved
 loop-i-preserved c =

@@ -3,7 +3,7 @@ use Rattle.nego_expr.specs.Use.{Iterate, allows}
 use Rattle.nego_expr.specs.WorkView.{plain_outcome}
 use Rattle.nego_reduce.proofs.Guards.{dead_iteration}
 use Rattle.nego_reduce.proofs.Searching.{holds_below, holds_more, holds_always, item_at, past_all}
-use Rattle.nego_reduce.proofs.iterations.least_iteration.Goals as goal
+use Rattle.nego_reduce.proofs.iterations.least_of_all.Goals as goal
 
 pub returns-then-can_iterate-clause-some : goal.returns-then-can_iterate-clause-some
 returns-then-can_iterate-clause-some g c =
