@@ -1,7 +1,8 @@
 pub mod Counts
-pub mod Words
+pub mod Lacking
 pub mod Places
 pub mod Made
 pub mod Keeping
 pub mod Alike
 pub mod Answering
+pub mod Lent

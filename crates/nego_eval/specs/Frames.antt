@@ -1,9 +1,10 @@
 -- The rows of a summary's nodes that are kept, and those in the making.
-use Rattle.std.specs.Prelude.{◌≡◌, ℕ, ◌+◌, ◌-◌, ◌*◌, ◌<◌, ◌≤◌, List, length, slice_get, slice_index_or, Option, Some, None, All, ⊤}
+use Rattle.std.specs.Prelude.{◌≡◌, ℕ, ◌+◌, ◌-◌, ◌*◌, ◌<◌, ◌≤◌, List, length, map, slice_get, slice_index_or, Option, Some, None, All, ⊤}
+use Rattle.std.specs.List.{range_with_len}
 use Rattle.nego_data.specs.Data.{data_count}
 use Rattle.nego_model.specs.Joining.{Relation, By}
 use Rattle.nego_model.specs.Expression.{PlainNode, Base, Join, Then, Star, IsNodeList, Means, NodeBases}
-use Rattle.nego_model.specs.Diagram.{relation_of}
+use Rattle.nego_model.specs.Diagram.{relation_of, outcome_table}
 use Rattle.nego_eval.specs.Begun.{IsRowOf, IsBegun}
 use Rattle.nego_eval.specs.declared.rows.Pair.{Pair}
 use Rattle.nego_eval.specs.declared.rows.Rows.{Rows}
@@ -36,6 +37,7 @@ pub record AreRows (rows : Rows) : Type 0 where
   pub bases : All (NodeBases (λ o. o < length rows.diagram.now.outcomes) (λ i. ⊤)) rows.nodes.now.nodes
   pub joint : rows.joint ≡ data_count rows.diagram.now.sizes
   pub few : rows.joint ≤ 1024
+  pub tables : rows.tables ≡ map (outcome_table rows.diagram.now) (range_with_len 0 (length rows.diagram.now.outcomes))
   pub places : length rows.kept ≡ length rows.nodes.now.nodes * rows.joint
   pub each : (pair : Pair) (row : List ℕ) → IsPair rows pair → kept_row rows pair ≡ Some row → IsRowAt rows pair row
 

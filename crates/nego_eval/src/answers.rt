@@ -9,9 +9,9 @@ ghost use Rattle.nego_expr.specs.SummaryText.{plain_summary};
 ghost use Rattle.nego_eval.specs.Answers.{IsAnswer, AreAnswers};
 
 use crate::making::Making;
-use crate::row::Row;
 use crate::rows::{Pair, Rows};
 use nego_base::{Memory, Seq};
+use nego_data::DataSet;
 use nego_expr::Summary;
 use nego_model::Diagram;
 use std::alloc::Global;
@@ -46,7 +46,7 @@ pub fn ask(alloc: Global, d: &Diagram, s: &Summary, start: u16) -> Result<Answer
 }
 
 /// Adds the pairs of a place and each joint data that is in a row, in their order.
-fn add_row(answers: &mut Answers, place: u32, row: &Row, joint: u16) -> Result<(), Memory>
+fn add_row(answers: &mut Answers, place: u32, row: &DataSet, joint: u16) -> Result<(), Memory>
     requires { joint ≤ 1024 }
     ensures { OnOk result (answers.new ≡ answers.old ++ map (λ e. (place, e)) (filter (λ e. is_in e row.now) (range_with_len 0 joint))) }
 {

@@ -1,21 +1,21 @@
 //! Rows in the making.
-ghost use Rattle.std.specs.Prelude.{◌≡◌, ℕ, ◌<◌, ◌≤◌, false, true, slice_get, Some, IfErr, OnOk};
+ghost use Rattle.std.specs.Prelude.{◌≡◌, ℕ, ◌<◌, ◌≤◌, ◌||◌, ◌==◌, false, true, slice_get, Some, IfErr, OnOk};
 ghost use Rattle.nego_base.specs.Members.{is_in};
 ghost use Rattle.nego_model.specs.Expression.{Join, Then, Star};
 ghost use Rattle.nego_eval.specs.Rows.{lacked};
 ghost use Rattle.nego_eval.specs.Frames.{AreRows, IsPair, IsRowAt, IsWanted, IsGoing, IsFrame, meaning, kept_row};
 
-use crate::row::Row;
 use crate::rows::{Pair, Rows};
 use nego_base::NodeId;
+use nego_data::DataSet;
 use nego_expr::Node;
 
 /// A row in the making: the joint data that were met so far, and those that were followed.
 #[derive(Debug, Drop)]
 pub(crate) struct Frame {
     pub(crate) pair: Pair,
-    pub(crate) met: Row,
-    pub(crate) followed: Row,
+    pub(crate) met: DataSet,
+    pub(crate) followed: DataSet,
 }
 
 impl Frame {
@@ -27,8 +27,8 @@ impl Frame {
     {
         Frame {
             pair,
-            met: Row::none(),
-            followed: Row::none(),
+            met: DataSet::none(),
+            followed: DataSet::none(),
         }
     }
 
@@ -67,7 +67,7 @@ impl Frame {
         let start = self.pair.start;
         let ones = rows.find(Pair { node: one, start })?;
         let twos = rows.find(Pair { node: two, start })?;
-        let mut met = Row::none();
+        let mut met = DataSet::none();
         met.add(ones);
         met.add(twos);
         self.met = met;
@@ -89,8 +89,10 @@ impl Frame {
     {
         let start = self.pair.start;
         let middle = rows.find(Pair { node: first, start })?;
-        while let Some(y) = middle.least_besides(&self.followed) {
+        let mut from = 0;
+        while let Some(y) = middle.least_besides(&self.followed, from) {
             self.follow(rows, second, y)?;
+            from = y + 1;
         }
         Ok(())
     }
@@ -108,7 +110,7 @@ impl Frame {
         ensures wanted { IfErr result (λ wanted. IsWanted rows.now self.old.pair wanted) }
     {
         self.met.insert(self.pair.start);
-        while let Some(y) = self.met.least_besides(&self.followed) {
+        while let Some(y) = self.met.least_besides(&self.followed, 0) {
             self.step(rows, child, y)?;
         }
         Ok(())
@@ -162,6 +164,7 @@ impl Frame {
         ensures pair { self.new.pair ≡ self.old.pair }
         ensures going { IsGoing rows.now self.new child.0 }
         ensures grows { (e : ℕ) → is_in e self.old.met ≡ true → is_in e self.new.met ≡ true }
+        ensures followed { OnOk result ((e : ℕ) → is_in e self.new.followed ≡ (y == e || is_in e self.old.followed)) }
         ensures fewer { OnOk result (lacked self.new.followed < lacked self.old.followed) }
         ensures wanted { IfErr result (λ wanted. IsWanted rows.now self.old.pair wanted) }
     {

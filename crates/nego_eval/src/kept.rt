@@ -2,8 +2,8 @@
 ghost use Rattle.std.specs.Prelude.{◌≡◌, ◌<◌, ◌^◌, length, replicate, slice_index_or, slice_set, IfOk, OnOk};
 ghost use Rattle.std.specs.Option.{option_copied};
 
-use crate::row::Row;
 use nego_base::{Memory, Seq};
+use nego_data::DataSet;
 use std::alloc::Global;
 use std::marker::Model;
 
@@ -12,7 +12,7 @@ use std::marker::Model;
 #[derive(Debug, Drop)]
 pub(crate) struct KeptRows {
     places: Vec<u32>,
-    rows: Seq<Row>,
+    rows: Seq<DataSet>,
 }
 
 impl Model for KeptRows {
@@ -38,7 +38,7 @@ impl KeptRows {
     }
 
     /// The row of a place, where it has one.
-    pub(crate) fn get(&self, place: usize) -> Option<&Row>
+    pub(crate) fn get(&self, place: usize) -> Option<&DataSet>
         requires { place < length self.now }
         ensures { option_copied result ≡ slice_index_or self.now place None }
     {
@@ -50,7 +50,7 @@ impl KeptRows {
     }
 
     /// Gives a place that has none a row.
-    pub(crate) fn keep(&mut self, place: usize, row: Row) -> Result<(), Memory>
+    pub(crate) fn keep(&mut self, place: usize, row: DataSet) -> Result<(), Memory>
         requires there { place < length self.old }
         requires vacant { slice_index_or self.old place None ≡ None }
         ensures { OnOk result (self.new ≡ slice_set self.old place (Some row)) }

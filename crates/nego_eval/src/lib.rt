@@ -5,7 +5,6 @@ mod answers;
 mod frame;
 mod kept;
 mod making;
-mod row;
 mod rows;
 #[cfg(test)]
 mod tests;

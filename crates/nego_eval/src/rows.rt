@@ -1,15 +1,16 @@
 //! The rows of a summary's nodes.
-ghost use Rattle.std.specs.Prelude.{◌≡◌, ℕ, ◌<◌, length, All, IfOk, OnOk, IfErr, OnErr, IsTrue, is_some, IsSome, ⊤};
+ghost use Rattle.std.specs.Prelude.{◌≡◌, ℕ, ◌<◌, length, map, All, IfOk, OnOk, IfErr, OnErr, IsTrue, is_some, IsSome, ⊤};
+ghost use Rattle.std.specs.List.{range_with_len};
 ghost use Rattle.nego_data.specs.Data.{data_count};
 ghost use Rattle.nego_base.specs.Members.{is_in};
 ghost use Rattle.nego_model.specs.Expression.{IsNodeList, NodeBases};
-ghost use Rattle.nego_model.specs.Diagram.{relation_of};
+ghost use Rattle.nego_model.specs.Diagram.{relation_of, outcome_table};
 ghost use Rattle.nego_eval.specs.Kept.{open_places};
 ghost use Rattle.nego_eval.specs.Frames.{AreRows, AreAlike, IsPair, IsRowAt, kept_row, place_of};
 
 use crate::kept::KeptRows;
-use crate::row::Row;
-use nego_base::{Memory, NodeId, OutcomeId};
+use nego_base::{Memory, NodeId, OutcomeId, Seq};
+use nego_data::{DataSet, Lender};
 use nego_expr::Nodes;
 use nego_model::Diagram;
 use std::alloc::Global;
@@ -28,6 +29,7 @@ pub(crate) struct Rows<'a> {
     pub(crate) diagram: &'a Diagram,
     pub(crate) nodes: &'a Nodes,
     pub(crate) joint: u16,
+    pub(crate) tables: Seq<Lender<'a>>,
     pub(crate) kept: KeptRows,
 }
 
@@ -45,11 +47,13 @@ impl<'a> Rows<'a> {
         ensures nodes { IfOk result (λ rows. rows.nodes.now ≡ nodes.now) }
     {
         let joint = diagram.sizes().all();
+        let tables = lenders(alloc, diagram)?;
         let kept = KeptRows::none(alloc, nodes.len() as usize * joint as usize)?;
         Ok(Rows {
             diagram,
             nodes,
             joint,
+            tables,
             kept,
         })
     }
@@ -62,7 +66,7 @@ impl<'a> Rows<'a> {
     }
 
     /// The row of a pair, or the pair again where it has none yet.
-    pub(crate) fn find(&self, pair: Pair) -> Result<&Row, Pair>
+    pub(crate) fn find(&self, pair: Pair) -> Result<&DataSet, Pair>
         requires rows { AreRows self.now }
         requires there { IsPair self.now pair }
         ensures row { IfOk result (λ row. IsRowAt self.now pair row.now) }
@@ -82,7 +86,7 @@ impl<'a> Rows<'a> {
     }
 
     /// The row of a pair, which is kept.
-    pub(crate) fn get(&self, pair: Pair) -> &Row
+    pub(crate) fn get(&self, pair: Pair) -> &DataSet
         requires rows { AreRows self.now }
         requires there { IsPair self.now pair }
         requires kept { IsSome (kept_row self.now pair) }
@@ -92,7 +96,7 @@ impl<'a> Rows<'a> {
     }
 
     /// Keeps the row of a pair that has none.
-    pub(crate) fn keep(&mut self, pair: Pair, row: Row) -> Result<(), Memory>
+    pub(crate) fn keep(&mut self, pair: Pair, row: DataSet) -> Result<(), Memory>
         requires rows { AreRows self.old }
         requires there { IsPair self.old pair }
         requires vacant { kept_row self.old pair ≡ None }
@@ -106,20 +110,25 @@ impl<'a> Rows<'a> {
     }
 
     /// The row of an outcome.
-    pub(crate) fn base(&self, o: OutcomeId, start: u16) -> Row
+    pub(crate) fn base(&self, o: OutcomeId, start: u16) -> DataSet
         requires rows { AreRows self.now }
         requires outcome { o.0 < length self.now.diagram.now.outcomes }
         requires start { start < self.now.joint }
         ensures exact { (e : ℕ) → is_in e result ≡ relation_of self.now.diagram.now o.0 start e }
         ensures below { (e : ℕ) → IsTrue (is_in e result) → e < self.now.joint }
     {
-        let table = self.diagram.table(o);
-        let mut row = Row::none();
-        for e in 0..self.joint {
-            if table.related(start, e) {
-                row.insert(e);
-            }
-        }
-        row
+        let _table = self.diagram.table(o);
+        self.tables[o.0 as usize].row(start)
     }
+}
+
+/// The tables of all outcomes, ready to lend their rows.
+fn lenders<'a>(alloc: Global, diagram: &'a Diagram) -> Result<Seq<Lender<'a>>, Memory>
+    ensures { IfOk result (λ tables. tables ≡ map (outcome_table diagram.now) (range_with_len 0 (length diagram.now.outcomes))) }
+{
+    let mut tables = Seq::new(alloc);
+    for o in 0..diagram.outcomes() {
+        tables.push(diagram.table(OutcomeId(o)).lend(alloc)?)?;
+    }
+    Ok(tables)
 }

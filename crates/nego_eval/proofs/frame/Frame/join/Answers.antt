@@ -11,4 +11,4 @@ returns-clause-row c =
     let pair = c.args.self.now.pair in
     join_made (By (relation_of rows.diagram.now)) rows.nodes.now.nodes c.requires.rows.nodes pair.node.0 c.args.one.0 c.args.two.0 rows.joint pair.start c.in_ok-ones.ones.now c.in_ok-twos.twos.now c.add-2.new.self
     c.requires.node c.in_ok-ones.ensures.row c.in_ok-twos.ensures.row
-    (λ e. c.add-2.ensures e ∙ ap (λ b. b || is_in e c.in_ok-twos.twos.now) (c.add.ensures e ∙ ap (λ b. b || is_in e c.in_ok-ones.ones.now) (c.none-met.ensures e)))
+    (λ e. c.add-2.ensures.value e ∙ ap (λ b. b || is_in e c.in_ok-twos.twos.now) (c.add.ensures.value e ∙ ap (λ b. b || is_in e c.in_ok-ones.ones.now) (c.none-met.ensures.value e)))

@@ -3,7 +3,7 @@ use Rattle.std.proofs.lemmas.Bool.{or_left, or_right}
 use Rattle.nego_base.specs.Members.{is_in}
 use Rattle.nego_model.specs.Joining.{By}
 use Rattle.nego_model.specs.Diagram.{relation_of}
-use Rattle.nego_eval.proofs.Words.{lacked-fewer}
+use Rattle.nego_eval.proofs.Lacking.{lacked-fewer}
 use Rattle.nego_eval.proofs.Made.{star_step, star_jumped}
 use Rattle.nego_eval.proofs.frame.Frame.step.Goals as goal
 
@@ -18,7 +18,7 @@ returns-in-Ok-clause-going c =
     let rows = c.args.rows.now in
     let old = c.args.self.now in
     star_jumped (By (relation_of rows.diagram.now)) rows.nodes.now.nodes c.requires.rows.nodes old.pair.node.0 c.args.child.0 c.requires.node rows.joint old.pair.start c.args.y old.met old.followed c.in-Ok.closed.now
-    c.add.new.self c.add-in-Ok.new.self c.insert.new.self c.requires.going c.in-Ok.ensures.row c.requires.met c.add.ensures c.add-in-Ok.ensures c.insert.ensures
+    c.add.new.self c.add-in-Ok.new.self c.insert.new.self c.requires.going c.in-Ok.ensures.row c.requires.met c.add.ensures.value c.add-in-Ok.ensures.value c.insert.ensures.value
 
 pub returns-in-Ok-clause-fewer : goal.returns-in-Ok-clause-fewer
 returns-in-Ok-clause-fewer c =
@@ -27,6 +27,6 @@ returns-in-Ok-clause-fewer c =
     let y = c.args.y in
     let below = c.requires.going.below y c.requires.met in
     lacked-fewer old c.insert.new.self y
-    (λ e h. c.insert.ensures e ∙ or_right (y == e) (is_in e between) (c.add-in-Ok.ensures e ∙ or_left (is_in e old) (is_in e c.in-Ok.closed.now) h))
+    (λ e h. c.insert.ensures.value e ∙ or_right (y == e) (is_in e between) (c.add-in-Ok.ensures.value e ∙ or_left (is_in e old) (is_in e c.in-Ok.closed.now) h))
     (omega (arith, below, c.requires.rows.few)) c.requires.fresh
-    (c.insert.ensures y ∙ or_left (y == y) (is_in y between) (eq-eqb y y refl))
+    (c.insert.ensures.value y ∙ or_left (y == y) (is_in y between) (eq-eqb y y refl))

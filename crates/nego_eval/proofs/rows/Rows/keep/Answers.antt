@@ -14,7 +14,7 @@ returns-clause-rows c =
     let pair = c.args.pair in
     let nodes = length old.nodes.now.nodes in
     let place = pair.node.0 * old.joint + pair.start in
-    then_ok c.keep.result (c.keep.new.self ≡ set old.kept c.place-place.result (Some c.args.row)) (AreRows (record { diagram = old.diagram; nodes = old.nodes; joint = old.joint; kept = c.keep.new.self }))
+    then_ok c.keep.result (c.keep.new.self ≡ set old.kept c.place-place.result (Some c.args.row)) (AreRows (record { diagram = old.diagram; nodes = old.nodes; joint = old.joint; tables = old.tables; kept = c.keep.new.self }))
     (λ after.
     let kept : c.keep.new.self ≡ set old.kept place (Some c.args.row) = after ∙ ap (λ n. set old.kept n (Some c.args.row)) c.place-place.ensures in
     record {
@@ -22,6 +22,7 @@ returns-clause-rows c =
       bases = c.requires.rows.bases;
       joint = c.requires.rows.joint;
       few = c.requires.rows.few;
+      tables = c.requires.rows.tables;
       places = ap length kept ∙ length-set old.kept place (Some c.args.row) ∙ c.requires.rows.places;
       each = λ other row there found.
           each_kept (λ i x r. IsRowOf (meaning old i) old.joint x r) nodes old.joint old.kept pair.node.0 pair.start c.args.row c.requires.rows.places c.requires.there.node c.requires.there.start c.requires.row
