@@ -1,6 +1,6 @@
 -- Certificates are read by their grammar: a line is read by what it is asked, what is read of it is what it says, and
 -- what it says is read.
-use Rattle.std.proofs.Common.{◌≡◌, ℕ, ◌≤◌, ◌<◌, Bool, true, false, cond, List, [], ◌∷◌, ◌++◌, length, map, All, Option, Some, Result, Ok, Err, refl, sym, ap, subst, ◌∙◌, arith}
+use Rattle.std.proofs.Common.{◌≡◌, ℕ, ◌≤◌, ◌<◌, cond, List, [], ◌∷◌, ◌++◌, length, map, All, Some, Result, Ok, Err, refl, sym, ap, subst, ◌∙◌, arith}
 use Rattle.std.specs.Prelude.{slice_get, codes, decimal}
 use Rattle.std.specs.Str.{bytes_eq}
 use Rattle.std.proofs.lemmas.List.Elements.{All-nil, All-cons, All-head, All-tail}
@@ -22,9 +22,8 @@ use Rattle.nego_cert.specs.declared.row.Kind.{Kind}
 use Rattle.nego_cert.specs.declared.row.Kind.TheVariants as kinds
 use Rattle.nego_cert.specs.declared.row.Row.{Row}
 use Rattle.nego_cert.specs.declared.row.Row.TheVariants as rows
-use Rattle.nego_cert.specs.declared.cert.CertLine.{CertLine}
 use Rattle.nego_cert.specs.Lines.{keyword, kind_of, kind_of_use}
-use Rattle.nego_cert.specs.Table.{word_texts, one_number, two_numbers, demands, SpellsLine, certificate_lines}
+use Rattle.nego_cert.specs.Table.{one_number, two_numbers, demands, SpellsLine, certificate_lines}
 use Rattle.nego_cert.specs.Reading.{number_in, header_in, one_in, two_in, use_row, row_of, row_in}
 use Rattle.nego_cert.proofs.LineTexts.{text_at, first_again, one_read, one_again, two_read, two_again, header_read, header_again, word_read, word_again}
 

@@ -1,5 +1,5 @@
 -- The certificate that a text spells, or its first fault, from what its lines say.
-use Rattle.std.proofs.Common.{◌≡◌, ℕ, List, [], ◌∷◌, ◌++◌, map, None, Some, Result, Ok, Err, ◌⊎◌, inl, inr, refl, sym, ap, subst, ◌∙◌, arith}
+use Rattle.std.proofs.Common.{◌≡◌, ℕ, List, [], ◌∷◌, ◌++◌, map, None, Result, Ok, Err, inl, inr, refl, sym, ap, subst, ◌∙◌, arith}
 use Rattle.std.specs.Prelude.{IfOk, IfErr}
 use Rattle.std.specs.List.{Contains}
 use Rattle.std.proofs.lemmas.Option.{none-some}
@@ -22,7 +22,7 @@ use Rattle.nego_cert.specs.declared.row.Kind.TheVariants as kinds
 use Rattle.nego_cert.specs.declared.row.Row.{Row}
 use Rattle.nego_cert.specs.declared.row.Row.TheVariants as rows
 use Rattle.nego_cert.specs.Lines.{keyword, followers, kind_of_use, rows_of}
-use Rattle.nego_cert.specs.Table.{certificate_lines, SpellsCertificate, IsFirstFault, ReadHasCause, SpellsNothing}
+use Rattle.nego_cert.specs.Table.{certificate_lines, SpellsCertificate, ReadHasCause, SpellsNothing}
 use Rattle.nego_cert.specs.Reading.{row_in, walk, uses_in, Reads}
 use Rattle.nego_cert.specs.Laws.{TextsSpellOneCertificate, TextsSpellOrHaveAFault, SpelledHaveNoFault, FaultsAreOne}
 use Rattle.nego_cert.proofs.CertificateRows.{same_kind, reads}

@@ -1,5 +1,5 @@
 -- The lines of a certificate, read one after the other.
-use Rattle.std.proofs.Common.{◌≡◌, ℕ, ◌+◌, ◌<◌, ◌≤◌, ◌==◌, true, false, List, [], ◌∷◌, ◌++◌, length, drop, get_or, Result, Ok, Err, refl, sym, ap, subst, ◌∙◌, arith}
+use Rattle.std.proofs.Common.{◌≡◌, ℕ, ◌+◌, ◌<◌, ◌≤◌, ◌==◌, true, false, List, [], ◌∷◌, ◌++◌, length, drop, get_or, Result, Ok, refl, sym, ap, subst, ◌∙◌, arith}
 use Rattle.std.proofs.lemmas.Bool.{eqb-true}
 use Rattle.std.proofs.lemmas.Grind.{flat_map-append}
 use Rattle.std.proofs.lemmas.List.{append-nil, drop_all}
@@ -10,7 +10,6 @@ use Rattle.nego_base.specs.declared.line.Line.{Line}
 use Rattle.nego_base.specs.LineAnswers.{onto, Fails}
 use Rattle.nego_base.specs.LineWalk.{ended}
 use Rattle.nego_base.proofs.LineLoops.{onto_nil, cut_at, walk_goes_on, walk_strays, walk_stops, walk_ends}
-use Rattle.nego_cert.specs.declared.cert.Cert.{Cert}
 use Rattle.nego_cert.specs.declared.cert.CertLine.{CertLine}
 use Rattle.nego_cert.specs.declared.row.Kind.{Kind}
 use Rattle.nego_cert.specs.declared.row.Row.{Row}

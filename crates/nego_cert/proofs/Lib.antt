@@ -1,9 +1,13 @@
+pub mod AcceptedSummaries
 pub mod CertificateRows
 pub mod CertificateTexts
 pub mod CertificateWalk
 pub mod LineTexts
 pub mod MadeLines
 pub mod PrintedCertificates
+pub mod PrintedLines
+pub mod PrintedSummaries
+pub mod SummaryParts
 pub mod SummaryRows
 pub mod SummarySpelling
 pub mod SummaryTexts

@@ -1,6 +1,6 @@
 -- Uses of a certificate that are made one after the other, up to the first that can't be made.
 use Rattle.std.specs.Prelude.{OnOk}
-use Rattle.std.proofs.Common.{◌≡◌, ℕ, ◌+◌, ◌<◌, ◌≤◌, Bool, true, false, List, [], ◌∷◌, ◌++◌, length, map, take, drop, get_or, Result, Ok, Err, IsTrue, inl, inr, refl, sym, ap, subst, ◌∙◌, arith, add-one}
+use Rattle.std.proofs.Common.{◌≡◌, ℕ, ◌+◌, ◌<◌, ◌≤◌, Bool, true, false, List, [], ◌∷◌, ◌++◌, length, take, drop, get_or, Result, Ok, Err, IsTrue, inl, inr, refl, sym, subst, ◌∙◌, add-one}
 use Rattle.std.proofs.Math.Seq.{split_at}
 use Rattle.std.proofs.lemmas.Bool.{cases_lt}
 use Rattle.nego_expr.specs.declared.uses.RuleFault.{RuleFault}

@@ -1,19 +1,16 @@
 -- The printed text of uses spells a certificate of just these uses, and its lines are short.
-use Rattle.std.proofs.Common.{◌≡◌, ◌≢◌, ℕ, ◌+◌, ◌*◌, ◌<◌, ◌≤◌, Bool, true, ◌&&◌, nat_le, nat_lt, List, [], ◌∷◌, ◌++◌, length, map, All, codes, decimal, slice_index, slice_index_or, refl, sym, ap, subst, ◌∙◌, append_assoc, arith}
-use Rattle.std.specs.List.{list_all, Contains}
-use Rattle.std.proofs.lemmas.Bool.{and_parts, leb-true, ltb-true}
+use Rattle.std.proofs.Common.{◌≡◌, ℕ, ◌+◌, ◌*◌, ◌<◌, ◌≤◌, List, [], ◌∷◌, ◌++◌, length, map, All, codes, decimal, refl, sym, ap, subst, ◌∙◌, append_assoc, arith}
+use Rattle.std.specs.List.{Contains}
 use Rattle.std.proofs.lemmas.Fmt.{length-decimal-le}
 use Rattle.std.proofs.lemmas.List.{length-append}
 use Rattle.std.proofs.lemmas.List.Elements.{All-nil, All-cons, All-head, All-tail}
 use Rattle.nego_base.specs.declared.line.Line.{Line}
 use Rattle.nego_base.specs.LineGrammar.{Say, behind_rows}
 use Rattle.nego_base.specs.Lines.{lines}
-use Rattle.nego_base.specs.Printed.{printed_line, printed, IsPrintableWord, IsPrintable, ArePrintable}
+use Rattle.nego_base.specs.Printed.{printed_line, printed, IsPrintable, ArePrintable}
 use Rattle.nego_base.specs.Scan.{scanned, line_at}
 use Rattle.nego_base.proofs.LineFaults.{named_is}
-use Rattle.nego_base.proofs.NameLaws.{each_where_all, decimal_printable}
-use Rattle.nego_base.proofs.PrintedLaws.{words_printed, lines_printed, numbered, scan_fault_printed, scanned_printed}
-use Rattle.nego_base.proofs.WordLaws.{texts_at}
+use Rattle.nego_base.proofs.PrintedLaws.{lines_printed, numbered, scan_fault_printed, scanned_printed}
 use Rattle.nego_expr.specs.declared.uses.Use.{Use}
 use Rattle.nego_expr.specs.declared.uses.Use.TheVariants as the_uses
 use Rattle.nego_expr.specs.Use.{PlainUse, Merge, Iterate, Shortcut, Close}
@@ -26,13 +23,11 @@ use Rattle.nego_cert.specs.declared.row.Row.{Row}
 use Rattle.nego_cert.specs.declared.row.Row.TheVariants as rows
 use Rattle.nego_cert.specs.CertificateText.{use_line, use_lines, certificate_text}
 use Rattle.nego_cert.specs.Lines.{keyword, followers, kind_of_use, rows_of, use_words, uses_of}
-use Rattle.nego_cert.specs.Table.{word_texts, HasShortNumbers, SpellsLine, certificate_lines, SpellsCertificate}
+use Rattle.nego_cert.specs.Table.{HasShortNumbers, SpellsLine, certificate_lines, SpellsCertificate}
 use Rattle.nego_cert.specs.Laws.{PrintedAreSpelled, SpelledAreShort, HasSmallNumbers, PrintedAreShort}
+use Rattle.nego_cert.proofs.PrintedLines.{literal, Short, number, digits, one_word, two_words, three_words, words_are, end_words, end_printable}
 
 -- ---- the lines of a printed certificate
-
-abbrev pub end_words : List (List ℕ)
-end_words = codes "end" ∷ []
 
 abbrev pub header_words : List (List ℕ)
 header_words = codes "certificate" ∷ codes "1" ∷ []
@@ -60,40 +55,13 @@ text_is uses = ap (λ t. codes "certificate 1\n" ++ t) (use_lines_are uses)
 
 -- ---- they can be printed
 
-abbrev is_printed : ℕ → Bool
-is_printed b = nat_le 33 b && nat_le b 126
-
--- a text of which a test computes that it can be printed
-literal : (bytes : List ℕ) → (nat_lt 0 (length bytes) && list_all is_printed bytes) ≡ true → IsPrintableWord bytes
-literal bytes h =
-    let parts = and_parts (nat_lt 0 (length bytes)) (list_all is_printed bytes) h in
-    record {
-      filled = ltb-true 0 (length bytes) parts.0;
-      bytes = each_where_all is_printed (λ b. (33 ≤ b) × (b ≤ 126)) (λ b t. let both = and_parts (nat_le 33 b) (nat_le b 126) t in (leb-true 33 b both.0, leb-true b 126 both.1)) bytes parts.1;
-    }
-
-abbrev Short : ℕ → Type 0
-Short n = n ≤ 999999
-
-number : (n : ℕ) → Short n → IsPrintableWord (decimal n)
-number n few = decimal_printable n (omega arith)
-
-digits : (n : ℕ) → Short n → length (decimal n) ≤ 6
-digits n few = length-decimal-le 6 n (omega arith) (omega arith) (omega arith)
-
-one_word : (w : List ℕ) → IsPrintableWord w → All IsPrintableWord (w ∷ [])
-one_word w h = All-cons IsPrintableWord w [] h (All-nil IsPrintableWord)
-
-two_words : (w v : List ℕ) → IsPrintableWord w → IsPrintableWord v → All IsPrintableWord (w ∷ v ∷ [])
-two_words w v h k = All-cons IsPrintableWord w (v ∷ []) h (one_word v k)
-
 use_printable : (what : PlainUse) → HasShortNumbers what → IsPrintable (use_words what)
 use_printable (Merge o1 o2) h =
     let few = All-head Short o1 (o2 ∷ []) h in
     let few' = All-head Short o2 [] (All-tail Short o1 (o2 ∷ []) h) in
     record {
       filled = omega arith;
-      words = All-cons IsPrintableWord (codes "merge") (decimal o1 ∷ decimal o2 ∷ []) (literal (codes "merge") refl) (two_words (decimal o1) (decimal o2) (number o1 few) (number o2 few'));
+      words = three_words (codes "merge") (decimal o1) (decimal o2) (literal (codes "merge") refl) (number o1 few) (number o2 few');
       no_comment = λ e. omega arith;
       short = (let e = length-append (decimal o1) (32 ∷ decimal o2) in let d = digits o1 few in let d' = digits o2 few' in omega arith);
     }
@@ -110,14 +78,11 @@ use_printable (Shortcut o n) h =
     let few' = All-head Short n [] (All-tail Short o (n ∷ []) h) in
     record {
       filled = omega arith;
-      words = All-cons IsPrintableWord (codes "shortcut") (decimal o ∷ decimal n ∷ []) (literal (codes "shortcut") refl) (two_words (decimal o) (decimal n) (number o few) (number n few'));
+      words = three_words (codes "shortcut") (decimal o) (decimal n) (literal (codes "shortcut") refl) (number o few) (number n few');
       no_comment = λ e. omega arith;
       short = (let e = length-append (decimal o) (32 ∷ decimal n) in let d = digits o few in let d' = digits n few' in omega arith);
     }
 use_printable Close h = record { filled = omega arith; words = one_word (codes "close") (literal (codes "close") refl); no_comment = λ e. omega arith; short = omega arith }
-
-end_printable : IsPrintable end_words
-end_printable = record { filled = omega arith; words = one_word (codes "end") (literal (codes "end") refl); no_comment = λ e. omega arith; short = omega arith }
 
 header_printable : IsPrintable header_words
 header_printable = record { filled = omega arith; words = two_words (codes "certificate") (codes "1") (literal (codes "certificate") refl) (literal (codes "1") refl); no_comment = λ e. omega arith; short = omega arith }
@@ -132,10 +97,6 @@ pub printed_lines : (uses : List PlainUse) → All HasShortNumbers uses → line
 printed_lines uses h = ap lines (text_is uses) ∙ lines_printed (all_words uses) (All-cons IsPrintable header_words (words_behind uses) header_printable (behind_printable uses h))
 
 -- ---- what they say
-
--- the words of a printed line
-words_are : (n : ℕ) (words : List (List ℕ)) → IsPrintable words → word_texts (line_at n (printed_line words)) ≡ words
-words_are n words h = texts_at n 1 (printed_line words) ∙ words_printed words h.words
 
 -- a use of the program, from its numbers
 abbrev use_of : PlainUse → Use

@@ -1,6 +1,6 @@
 -- Summaries are read by their grammar: a line is read by what it is asked, what is read of it is what it says, and what it
 -- says is read.
-use Rattle.std.proofs.Common.{◌≡◌, ◌≢◌, ℕ, ◌+◌, ◌≤◌, ◌<◌, ◌==◌, ◌&&◌, ◌||◌, ltb, Bool, true, false, cond, List, [], ◌∷◌, ◌++◌, length, map, take, drop, zero, suc, inl, inr, All, Option, Some, None, Result, Ok, Err, refl, sym, ap, subst, ◌∙◌, arith}
+use Rattle.std.proofs.Common.{◌≡◌, ◌≢◌, ℕ, ◌≤◌, ◌<◌, ◌==◌, ◌&&◌, ◌||◌, ltb, Bool, true, false, cond, List, [], ◌∷◌, ◌++◌, length, map, take, drop, zero, suc, inl, All, Option, Some, None, Result, Ok, Err, refl, sym, ap, subst, ◌∙◌, arith}
 use Rattle.std.specs.Prelude.{slice_get, codes, decimal}
 use Rattle.std.specs.List.{list_any}
 use Rattle.std.specs.Option.{option_map_or}
@@ -8,20 +8,19 @@ use Rattle.std.specs.Str.{bytes_eq}
 use Rattle.std.proofs.lemmas.Bool.{and_parts, and_from, eqb-true, eq-eqb, ltb-true, lt-ltb, false≢true}
 use Rattle.std.proofs.lemmas.List.Elements.{All-nil, All-cons, All-head, All-tail}
 use Rattle.std.proofs.lemmas.Slice.Eq.{bytes_eq-Decides}
-use Rattle.nego_base.specs.declared.fault.FaultKind.{FaultKind}
 use Rattle.nego_base.specs.declared.fault.FaultKind.TheVariants as fault_kinds
 use Rattle.nego_base.specs.declared.fault.Fault.{Fault}
 use Rattle.nego_base.specs.declared.line.Word.{Word}
 use Rattle.nego_base.specs.declared.line.Line.{Line}
 use Rattle.nego_base.specs.Number.{number_of}
 use Rattle.nego_base.specs.Grammar.{at_word, past_line, least_words, exact_words, name_word, number_word}
-use Rattle.nego_base.specs.LineGrammar.{Demand, Words, LeastWords, Version, Name, Number, Own, IsNumeral, word_number}
+use Rattle.nego_base.specs.LineGrammar.{Demand, Words, LeastWords, Version, Name, Number, Own, word_number}
 use Rattle.nego_base.specs.LineWalk.{word_in, Answers}
 use Rattle.nego_base.specs.Results.{◌>>=◌}
 use Rattle.nego_base.proofs.Cases.{bind_ok, same_Ok, same_Err, ok-err}
-use Rattle.nego_base.proofs.GrammarLaws.{least_ok, exact_ok, name_ok, name_word-ok, number_ok, number_word-ok}
-use Rattle.nego_base.proofs.LineFaults.{Reads, answers_then, answers_last}
-use Rattle.nego_base.proofs.LineDemands.{one_answer, least_answers, exact_answers, name_answers, number_answers, version_answers, place_answers, place_then}
+use Rattle.nego_base.proofs.GrammarLaws.{least_ok, exact_ok, number_ok, number_word-ok}
+use Rattle.nego_base.proofs.LineFaults.{answers_then, answers_last}
+use Rattle.nego_base.proofs.LineDemands.{one_answer, least_answers, exact_answers, name_answers, number_answers, version_answers, place_answers}
 use Rattle.nego_model.specs.Expression.{PlainNode, Base, Join, Then, Star}
 use Rattle.nego_model.specs.Summary.{PlainFinal}
 use Rattle.nego_expr.specs.Use.{most_nodes}
@@ -29,12 +28,10 @@ use Rattle.nego_cert.specs.declared.summary_row.Form.{Form}
 use Rattle.nego_cert.specs.declared.summary_row.Form.TheVariants as forms
 use Rattle.nego_cert.specs.declared.summary_row.SummaryKind.{SummaryKind}
 use Rattle.nego_cert.specs.declared.summary_row.SummaryKind.TheVariants as kinds
-use Rattle.nego_cert.specs.Table.{word_texts}
 use Rattle.nego_cert.specs.Reading.{number_in, header_in}
-use Rattle.nego_cert.specs.SummaryLines.{keyword, form_word, form_words, node_line_words, final_line_words}
-use Rattle.nego_cert.specs.SummaryTable.{SummaryLine, HeaderLine, NodeLine, FinalLine, EndLine, kind_of, Known, SummaryDemand, OfForm, IsPlace, IsBelow, IsNew, IsAsAsked, has_two, has_outcome, own_number, asked_numbers, demands, IsNodeAt, SpellsSummaryLine, summary_lines}
+use Rattle.nego_cert.specs.SummaryLines.{keyword, form_word, form_words}
+use Rattle.nego_cert.specs.SummaryTable.{HeaderLine, NodeLine, FinalLine, EndLine, Known, SummaryDemand, OfForm, IsPlace, IsBelow, IsNew, IsAsAsked, has_two, own_number, asked_numbers, demands}
 use Rattle.nego_cert.specs.SummaryReading.{number_if, form_named, form_word_of, new_word, place_in, below_in, two_below, made_of, node_in, final_in, said_by, line_in}
-use Rattle.nego_cert.proofs.LineTexts.{triple, text_at, text_read, text_again, first_again, count_read, count_again, number_read, number_again, header_read, header_again, word_read, word_again}
 
 -- ---- kinds
 

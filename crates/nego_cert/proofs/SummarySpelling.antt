@@ -1,5 +1,5 @@
 -- What is read of a line of a summary is what it says, and what it says is read.
-use Rattle.std.proofs.Common.{◌≡◌, ◌≢◌, ℕ, ◌+◌, ◌≤◌, ◌<◌, ◌==◌, ◌&&◌, ltb, Bool, true, false, cond, List, [], ◌∷◌, ◌++◌, length, map, All, Option, Some, None, Result, Ok, Err, refl, sym, ap, subst, ◌∙◌, arith}
+use Rattle.std.proofs.Common.{◌≡◌, ◌≢◌, ℕ, ◌≤◌, ◌<◌, ◌==◌, ◌&&◌, ltb, Bool, true, false, cond, List, [], ◌∷◌, length, map, All, Some, Result, Ok, Err, refl, sym, ap, subst, ◌∙◌, arith}
 use Rattle.std.specs.Prelude.{slice_get, codes, decimal}
 use Rattle.std.specs.List.{list_any}
 use Rattle.std.specs.Str.{bytes_eq}
@@ -31,7 +31,7 @@ use Rattle.nego_cert.specs.SummaryLines.{keyword, form_word, form_words, form_of
 use Rattle.nego_cert.specs.SummaryTable.{SummaryLine, HeaderLine, NodeLine, FinalLine, EndLine, kind_of, Known, IsNodeAt, SpellsSummaryLine, summary_lines}
 use Rattle.nego_cert.specs.SummaryReading.{number_if, form_word_of, new_word, place_in, below_in, two_below, made_of, node_in, final_in, said_by, line_in}
 use Rattle.nego_cert.proofs.LineTexts.{triple, text_at, text_read, text_again, first_again, count_read, count_again, number_read, number_again, header_read, header_again, word_read, word_again}
-use Rattle.nego_cert.proofs.SummaryRows.{same_kind, guard_ok, form_read, form_word_again, if_read, if_again, none_is, is_none, line_by}
+use Rattle.nego_cert.proofs.SummaryRows.{same_kind, form_read, form_word_again, if_read, if_again, none_is, is_none, line_by}
 
 module _ {A : Type 0} where
   four : (xs : List A) (x y z w : A) → length xs ≡ 4 → slice_get xs 0 ≡ Some x → slice_get xs 1 ≡ Some y → slice_get xs 2 ≡ Some z → slice_get xs 3 ≡ Some w → xs ≡ x ∷ y ∷ z ∷ w ∷ []

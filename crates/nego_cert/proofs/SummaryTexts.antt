@@ -1,5 +1,5 @@
 -- The summary that a text spells, or its first fault, from what its lines say.
-use Rattle.std.proofs.Common.{◌≡◌, ℕ, ◌+◌, List, [], ◌∷◌, ◌++◌, length, map, None, Some, Result, Ok, Err, ◌⊎◌, inl, inr, refl, sym, ap, subst, ◌∙◌, arith}
+use Rattle.std.proofs.Common.{◌≡◌, ℕ, ◌+◌, List, [], ◌∷◌, ◌++◌, map, None, Result, Ok, Err, inl, inr, refl, sym, ap, ap₂, subst, ◌∙◌, arith}
 use Rattle.std.specs.Prelude.{IfOk, IfErr}
 use Rattle.std.specs.List.{Contains, flat_map}
 use Rattle.std.proofs.lemmas.Option.{none-some}
@@ -9,16 +9,18 @@ use Rattle.nego_base.specs.declared.fault.ReadFaults.TheVariants as faults
 use Rattle.nego_base.specs.declared.line.Line.{Line}
 use Rattle.nego_base.specs.LineGrammar.{Say, behind_rows, IsTextOf, missing_end}
 use Rattle.nego_base.specs.Scan.{scan_fault, scanned, count_lines}
-use Rattle.nego_base.proofs.LineFaults.{named_again, fault_read, text_read, fault_or_text}
+use Rattle.nego_base.proofs.LineFaults.{named_again, fault_read, text_read, text_again, fault_once, fault_or_text, fault_else_text}
+use Rattle.nego_base.proofs.Cases.{same_Ok}
 use Rattle.nego_model.specs.Expression.{PlainNode}
 use Rattle.nego_model.specs.Summary.{PlainFinal, PlainSummary}
 use Rattle.nego_expr.specs.declared.summary.Summary.{Summary}
 use Rattle.nego_expr.specs.SummaryText.{plain_summary}
 use Rattle.nego_cert.specs.declared.summary_row.SummaryKind.{SummaryKind}
 use Rattle.nego_cert.specs.declared.summary_row.SummaryKind.TheVariants as kinds
-use Rattle.nego_cert.specs.SummaryLines.{keyword, followers}
-use Rattle.nego_cert.specs.SummaryTable.{SummaryLine, HeaderLine, NodeLine, FinalLine, EndLine, kind_of, Known, node_of, final_of, lines_of, summary_lines, SpellsSummary, SummaryHasCause, SpellsNoSummary}
+use Rattle.nego_cert.specs.SummaryLines.{keyword}
+use Rattle.nego_cert.specs.SummaryTable.{SummaryLine, HeaderLine, NodeLine, FinalLine, EndLine, Known, node_of, final_of, lines_of, summary_lines, SpellsSummary, SummaryHasCause, SpellsNoSummary}
 use Rattle.nego_cert.specs.SummaryReading.{line_in, walk, known_of, nothing_yet, summary_in, ReadsSummary}
+use Rattle.nego_cert.specs.SummaryLaws.{TextsSpellOneSummary, TextsSpellASummaryOrHaveAFault, SpelledSummariesHaveNoFault, SummaryFaultsAreOne}
 use Rattle.nego_cert.proofs.SummaryRows.{same_kind}
 use Rattle.nego_cert.proofs.SummarySpelling.{reads}
 
@@ -90,6 +92,44 @@ said_lines (line ∷ lines) (EndLine ∷ said) h ends = absurd (let e = early ki
 pub text_summary : (bytes : List ℕ) (said : List SummaryLine) → IsTextOf summary_lines bytes said → SpellsSummary bytes (summary_in said)
 text_summary bytes said h = subst (IsTextOf summary_lines bytes) (said_lines (scanned bytes) said h.say h.ends) h
 
+nodes_of_finals : (finals : List PlainFinal) → nodes_in (map FinalLine finals ++ EndLine ∷ []) ≡ []
+nodes_of_finals [] = refl
+nodes_of_finals (outcome ∷ finals) = nodes_of_finals finals
+
+nodes_of_lines : (nodes : List PlainNode) (finals : List PlainFinal) → nodes_in (map NodeLine nodes ++ (map FinalLine finals ++ EndLine ∷ [])) ≡ nodes
+nodes_of_lines [] finals = nodes_of_finals finals
+nodes_of_lines (node ∷ nodes) finals = ap (λ (ns : List PlainNode). node ∷ ns) (nodes_of_lines nodes finals)
+
+finals_of_finals : (finals : List PlainFinal) → finals_in (map FinalLine finals ++ EndLine ∷ []) ≡ finals
+finals_of_finals [] = refl
+finals_of_finals (outcome ∷ finals) = ap (λ (os : List PlainFinal). outcome ∷ os) (finals_of_finals finals)
+
+finals_of_lines : (nodes : List PlainNode) (finals : List PlainFinal) → finals_in (map NodeLine nodes ++ (map FinalLine finals ++ EndLine ∷ [])) ≡ finals
+finals_of_lines [] finals = finals_of_finals finals
+finals_of_lines (node ∷ nodes) finals = finals_of_lines nodes finals
+
+-- the summary that its lines say
+lines_say : (summary : PlainSummary) → summary_in (lines_of summary) ≡ summary
+lines_say summary = ap₂ (λ (ns : List PlainNode) (os : List PlainFinal). record { nodes = ns; finals = os }) (nodes_of_lines summary.nodes summary.finals) (finals_of_lines summary.nodes summary.finals)
+
+pub spelled_once : TextsSpellOneSummary
+spelled_once bytes one two h k =
+    let same : lines_of one ≡ lines_of two =
+    same_Ok {E = Fault} (lines_of one) (lines_of two) (sym (text_again summary_lines line_in reads bytes (lines_of one) h) ∙ text_again summary_lines line_in reads bytes (lines_of two) k) in
+    sym (lines_say one) ∙ (ap summary_in same ∙ lines_say two)
+
+pub spelled_sound : SpelledSummariesHaveNoFault
+spelled_sound bytes summary fault h k = fault_or_text summary_lines line_in reads bytes (lines_of summary) fault h k
+
+pub spelled_else_fault : TextsSpellASummaryOrHaveAFault
+spelled_else_fault bytes = elim (fault_else_text summary_lines line_in reads bytes) [
+  | inl text ↦ inl (summary_in text.0, text_summary bytes text.0 text.1)
+  | inr fault ↦ inr fault
+]
+
+pub first_fault_once : SummaryFaultsAreOne
+first_fault_once = fault_once summary_lines line_in reads
+
 -- ---- the answers of the reader
 
 said_is : (bytes : List ℕ) (lines lines' : List Line) (count : ℕ) → lines' ≡ scanned bytes → count ≡ count_lines bytes → lines ≡ lines' →
@@ -115,4 +155,4 @@ module _ (result : Result Summary ReadFaults) (bytes : List ℕ) (lines lines' :
 pub is_unspelled : (result : Result Summary ReadFaults) (bytes : List ℕ) → IfErr result (λ e. SummaryHasCause e bytes) → IfErr result (λ e. SpellsNoSummary e bytes)
 is_unspelled (Ok s) bytes h = tt
 is_unspelled (Err faults.Memory) bytes h = tt
-is_unspelled (Err (faults.Off fault)) bytes h = λ summary spelled. fault_or_text summary_lines line_in reads bytes (lines_of summary) fault spelled h
+is_unspelled (Err (faults.Off fault)) bytes h = λ summary spelled. spelled_sound bytes summary fault spelled h

@@ -1,5 +1,5 @@
 -- The lines of a summary, read one after the other.
-use Rattle.std.proofs.Common.{◌≡◌, ℕ, ◌+◌, ◌<◌, ◌≤◌, ◌==◌, true, false, List, [], ◌∷◌, ◌++◌, length, map, drop, get_or, Result, Ok, Err, refl, sym, ap, ap₂, subst, ◌∙◌, arith}
+use Rattle.std.proofs.Common.{◌≡◌, ℕ, ◌+◌, ◌<◌, ◌≤◌, ◌==◌, true, false, List, [], ◌∷◌, ◌++◌, length, map, drop, get_or, Result, Ok, refl, sym, ap, ap₂, subst, ◌∙◌, arith}
 use Rattle.std.specs.List.{flat_map}
 use Rattle.std.proofs.lemmas.Bool.{eqb-true}
 use Rattle.std.proofs.lemmas.Grind.{flat_map-append}
@@ -9,7 +9,7 @@ use Rattle.nego_base.specs.declared.fault.ReadFaults.{ReadFaults}
 use Rattle.nego_base.specs.declared.fault.ReadFaults.TheVariants as faults
 use Rattle.nego_base.specs.declared.line.Line.{Line}
 use Rattle.nego_base.specs.LineAnswers.{onto, Fails}
-use Rattle.nego_base.specs.LineWalk.{ended, kind_of_line, word_in}
+use Rattle.nego_base.specs.LineWalk.{ended, kind_of_line}
 use Rattle.nego_base.proofs.LineLoops.{onto_nil, cut_at, walk_goes_on, walk_strays, walk_stops, walk_ends}
 use Rattle.nego_model.specs.Summary.{PlainFinal, PlainSummary}
 use Rattle.nego_expr.specs.declared.summary.Summary.{Summary}
@@ -17,7 +17,7 @@ use Rattle.nego_expr.specs.SummaryText.{plain_summary}
 use Rattle.nego_cert.specs.declared.summary_row.SummaryKind.{SummaryKind}
 use Rattle.nego_cert.specs.SummaryLines.{followers}
 use Rattle.nego_cert.specs.SummaryTable.{SummaryLine, kind_of, Known, node_of, final_of, behind, summary_lines}
-use Rattle.nego_cert.specs.SummaryReading.{said_by, line_in, kind_in, walk, known_of, summary_in, with_line, ReadsSummary}
+use Rattle.nego_cert.specs.SummaryReading.{line_in, kind_in, walk, known_of, summary_in, with_line, ReadsSummary}
 
 abbrev name_of : PlainFinal → List ℕ
 name_of outcome = outcome.name

@@ -1,11 +1,9 @@
 -- A diagram and a certificate have one verdict at most, and what is accepted tells the diagram.
-use Rattle.std.proofs.Common.{◌≡◌, ℕ, ◌<◌, ◌≤◌, true, false, List, [], ◌∷◌, ◌++◌, length, map, IsTrue, Result, Ok, Err, refl, sym, ap, ap₂, subst, ◌∙◌, arith}
+use Rattle.std.proofs.Common.{◌≡◌, ℕ, ◌≤◌, List, [], ◌∷◌, ◌++◌, length, IsTrue, Result, Ok, Err, refl, sym, ap, ap₂, subst, ◌∙◌, arith}
 use Rattle.std.specs.Prelude.{IfOk}
 use Rattle.std.proofs.lemmas.Bool.{true≢false}
 use Rattle.nego_base.specs.declared.memory.Memory.{Memory}
-use Rattle.std.proofs.lemmas.List.{map-append}
-use Rattle.nego_model.specs.Negotiation.{IsDeterministic}
-use Rattle.nego_model.specs.Diagram.{PlainDiagram, IsDiagram, negotiation_of}
+use Rattle.nego_model.specs.Diagram.{PlainDiagram}
 use Rattle.nego_model.specs.Summary.{PlainSummary, Tells}
 use Rattle.nego_expr.specs.Work.{PlainWork}
 use Rattle.nego_expr.specs.Use.{PlainUse, Merge, Iterate, Shortcut, Close, allows, after_use, most_nodes}
@@ -27,7 +25,7 @@ use Rattle.nego_cert.specs.declared.verdict.RuleWhy.{RuleWhy}
 use Rattle.nego_cert.specs.declared.verdict.RuleWhy.TheVariants as whys
 use Rattle.nego_cert.specs.declared.verdict.Verdict.{Verdict}
 use Rattle.nego_cert.specs.declared.verdict.Verdict.TheVariants as verdicts
-use Rattle.nego_cert.specs.Replay.{uses_on, IsFinished, TellsIfAccepted, plain_verdict, LeadToSummary, Fails, IsFirstFailing, LeavesMore, PlainVerdict, Accepted, Rejected, NotOne, IsVerdict}
+use Rattle.nego_cert.specs.Replay.{uses_on, IsFinished, TellsIfAccepted, plain_verdict, LeadToSummary, Fails, IsFirstFailing, LeavesMore, Accepted, Rejected, NotOne, IsVerdict}
 use Rattle.nego_cert.specs.Laws.{VerdictsAreOne, AcceptedTell, LeadingAreAccepted}
 
 -- ---- a use that fails

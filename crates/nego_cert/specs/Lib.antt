@@ -3,6 +3,7 @@ pub mod Laws
 pub mod Lines
 pub mod Reading
 pub mod Replay
+pub mod SummaryLaws
 pub mod SummaryLines
 pub mod SummaryReading
 pub mod SummaryTable

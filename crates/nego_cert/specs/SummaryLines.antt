@@ -1,9 +1,6 @@
 -- The lines of a summary, one after the other: of which kind each is, and which words it has.
-use Rattle.std.specs.Prelude.{ℕ, ◌+◌, List, [], ◌∷◌, ◌++◌, map, codes, decimal}
+use Rattle.std.specs.Prelude.{ℕ, List, [], ◌∷◌, map, codes, decimal}
 use Rattle.nego_model.specs.Expression.{PlainNode, Base, Join, Then, Star}
-use Rattle.nego_expr.specs.declared.node.Node.{Node}
-use Rattle.nego_expr.specs.declared.summary.Final.{Final}
-use Rattle.nego_expr.specs.declared.summary.Summary.{Summary}
 use Rattle.nego_cert.specs.declared.summary_row.Form.{Form}
 use Rattle.nego_cert.specs.declared.summary_row.Form.TheVariants as forms
 use Rattle.nego_cert.specs.declared.summary_row.SummaryKind.{SummaryKind}

@@ -1,9 +1,8 @@
 -- The lines of a summary as a grammar: what each kind of line is asked and what it says; which text spells which summary,
 -- and the first fault of a text.
-use Rattle.std.specs.Prelude.{◌≡◌, ◌≢◌, ℕ, ◌+◌, ◌<◌, ◌≤◌, Bool, true, false, ◌||◌, if◌then◌else◌, List, [], ◌∷◌, ◌++◌, length, map, All, Some, slice_get, codes, decimal, ⊤}
+use Rattle.std.specs.Prelude.{◌≡◌, ◌≢◌, ℕ, ◌+◌, ◌<◌, ◌≤◌, Bool, true, false, ◌||◌, if◌then◌else◌, List, [], ◌∷◌, ◌++◌, length, map, All, slice_get, codes, decimal, ⊤}
 use Rattle.std.specs.Option.{option_map_or}
 use Rattle.std.specs.Str.{bytes_eq}
-use Rattle.nego_base.specs.declared.fault.Fault.{Fault}
 use Rattle.nego_base.specs.declared.fault.FaultKind.TheVariants as fault_kinds
 use Rattle.nego_base.specs.declared.fault.ReadFaults.{ReadFaults}
 use Rattle.nego_base.specs.declared.fault.ReadFaults.TheVariants as faults
@@ -15,7 +14,6 @@ use Rattle.nego_model.specs.Expression.{PlainNode, Base, Join, Then, Star}
 use Rattle.nego_model.specs.Summary.{PlainFinal, PlainSummary}
 use Rattle.nego_expr.specs.Use.{most_nodes}
 use Rattle.nego_cert.specs.declared.summary_row.Form.{Form}
-use Rattle.nego_cert.specs.declared.summary_row.Form.TheVariants as forms
 use Rattle.nego_cert.specs.declared.summary_row.SummaryKind.{SummaryKind}
 use Rattle.nego_cert.specs.declared.summary_row.SummaryKind.TheVariants as kinds
 use Rattle.nego_cert.specs.Table.{word_texts}

@@ -4,7 +4,6 @@ use Rattle.std.specs.Prelude.{◌≡◌, ℕ, ◌≤◌, List, [], ◌∷◌, �
 use Rattle.nego_base.specs.declared.fault.Fault.{Fault}
 use Rattle.nego_base.specs.declared.fault.ReadFaults.{ReadFaults}
 use Rattle.nego_base.specs.declared.fault.ReadFaults.TheVariants as faults
-use Rattle.nego_base.specs.declared.line.Word.{Word}
 use Rattle.nego_base.specs.declared.line.Line.{Line}
 use Rattle.nego_base.specs.LineGrammar.{LineGrammar, Demand, Words, Version, Number, word_number, IsTextOf, IsFirstFaultOf}
 use Rattle.nego_expr.specs.Use.{PlainUse}

@@ -1,6 +1,7 @@
-//! Laws of certificates and of their replay. Each function does nothing; its clause is the law.
+//! Laws of certificates, of their replay and of the texts of summaries. Each function does nothing; its clause is the law.
 
 ghost use Rattle.nego_cert.specs.Laws.{AcceptedTell, FaultsAreOne, LeadingAreAccepted, PrintedAreShort, PrintedAreSpelled, SpelledAreShort, SpelledHaveNoFault, TextsSpellOneCertificate, TextsSpellOrHaveAFault, VerdictsAreOne};
+ghost use Rattle.nego_cert.specs.SummaryLaws.{AcceptedArePrintable, PrintedSummariesAreShort, PrintedSummariesAreSpelled, SpelledSummariesArePrintable, SpelledSummariesHaveNoFault, SummaryFaultsAreOne, TextsSpellASummaryOrHaveAFault, TextsSpellOneSummary};
 
 /// A text spells one certificate or has one first fault, never both.
 pub fn texts_spell_or_have_a_fault()
@@ -36,4 +37,25 @@ pub fn accepted_certificates_tell()
 /// they lead to.
 pub fn leading_certificates_are_accepted()
     ensures { LeadingAreAccepted }
+{}
+
+/// A text spells one summary or has one first fault, never both.
+pub fn texts_spell_a_summary_or_have_a_fault()
+    ensures spelled_once { TextsSpellOneSummary }
+    ensures either { TextsSpellASummaryOrHaveAFault }
+    ensures apart { SpelledSummariesHaveNoFault }
+    ensures fault_once { SummaryFaultsAreOne }
+{}
+
+/// The printed text of a summary spells it, where it can be printed, as all those can that texts spell. A printed line has at
+/// most 37 bytes.
+pub fn printed_summaries_are_spelled()
+    ensures spelled { PrintedSummariesAreSpelled }
+    ensures printable { SpelledSummariesArePrintable }
+    ensures short { PrintedSummariesAreShort }
+{}
+
+/// The summary to which an accepted certificate leads can be printed, so that its text is read again as this summary.
+pub fn accepted_summaries_are_printable()
+    ensures { AcceptedArePrintable }
 {}

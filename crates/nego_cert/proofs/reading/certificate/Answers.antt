@@ -1,4 +1,4 @@
-use Rattle.std.proofs.Common.{[], ◌∷◌, sym, ap, subst, refl, Err, ◌∙◌}
+use Rattle.std.proofs.Common.{[], ◌∷◌, sym, ap, Err, ◌∙◌}
 use Rattle.std.proofs.lemmas.Result.{err_from_is_err_and}
 use Rattle.nego_base.specs.declared.fault.Fault.{Fault}
 use Rattle.nego_base.specs.declared.fault.ReadFaults.TheVariants as faults

@@ -1,13 +1,12 @@
-use Rattle.std.proofs.Common.{◌≡◌, ℕ, ◌<◌, List, [], ◌∷◌, ◌++◌, length, map, Ok, sym, ap, ap₂, subst, ◌∙◌, arith}
+use Rattle.std.proofs.Common.{◌≡◌, ℕ, List, [], ◌∷◌, ◌++◌, length, map, Ok, sym, ap, ap₂, subst, ◌∙◌, arith}
 use Rattle.std.proofs.lemmas.List.{append-nil, map-append}
-use Rattle.nego_model.specs.Summary.{PlainFinal, PlainSummary}
+use Rattle.nego_model.specs.Summary.{PlainFinal}
 use Rattle.nego_model.specs.Expression.{PlainNode}
 use Rattle.nego_expr.specs.NodeView.{plain_node}
 use Rattle.nego_expr.specs.SummaryText.{plain_final, plain_summary}
 use Rattle.nego_cert.specs.declared.summary_row.SummaryKind.{SummaryKind}
-use Rattle.nego_cert.specs.declared.summary_row.SummaryKind.TheVariants as kinds
-use Rattle.nego_cert.specs.SummaryTable.{NodeLine, FinalLine, IsNodeAt}
-use Rattle.nego_cert.specs.SummaryReading.{node_in, final_in, said_by, with_line}
+use Rattle.nego_cert.specs.SummaryTable.{NodeLine, FinalLine}
+use Rattle.nego_cert.specs.SummaryReading.{node_in, final_in, said_by}
 use Rattle.nego_cert.proofs.SummarySpelling.{node_below, few_nodes, children_below, said_node, said_final}
 use Rattle.nego_cert.proofs.summary_reading.add.Goals as goal
 
