@@ -61,7 +61,7 @@ module _ (n : ℕ) (some : 2 ≤ n) (few : n ≤ 64) where
       (λ i l. nexts_have (λ nexts. All (IsLine n i) nexts) n i some (λ _. All-nil (IsLine n i)) (λ _. lines_have n some few (IsLine n i) i l (λ j up b. record { to = j; up = up; below = b; line = refl })))
 
   -- an agent's next atom is the one to which it goes
-  leads : (m o a k : ℕ) → IsOutcome nego m o → IsTrue (is_in k (nego.next o a)) → (m < k) × (is_next n m k a ≡ true)
+  pub leads : (m o a k : ℕ) → IsOutcome nego m o → IsTrue (is_in k (nego.next o a)) → (m < k) × (is_next n m k a ≡ true)
   leads m o a k own h =
       let here = outcome_at diagram m o own in
       let item = item_at (λ (placed : PlacedOut). All (IsLine n placed.atom) placed.out.nexts) (outcome_in made) (all_outs made) o here.outcome each_line here.at in

@@ -2,8 +2,10 @@ mod Steps
 mod Names
 mod Moves
 mod OutcomeKinds
-mod Conditions
-mod Edges
+pub mod Conditions
+pub mod Edges
+mod Lanes
+pub mod SoundMade
 mod NameWords
-mod GoodLines
-mod PrintedMade
+pub mod GoodLines
+pub mod PrintedMade

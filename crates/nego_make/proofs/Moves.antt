@@ -24,7 +24,7 @@ between i j k up h =
 
 module _ (n i : ℕ) where
   -- the agent is no party of an atom before the next one
-  no_party : (j a k : ℕ) → is_next n i j a ≡ true → i < k → k < j → is_in a (parties n k) ≡ true → ⊥
+  pub no_party : (j a k : ℕ) → is_next n i j a ≡ true → i < k → k < j → is_in a (parties n k) ≡ true → ⊥
   no_party j a k h above below m =
       let none = not_so _ (and_parts (not (list_any (λ p. is_in a (parties n p)) (range_with_len (i + 1) (j - (i + 1))))) (is_in a (parties n j)) h).0 in
       false≢true (sym none ∙ any_from (λ p. is_in a (parties n p)) (range_with_len (i + 1) (j - (i + 1))) k (in_between i j k above below) m)

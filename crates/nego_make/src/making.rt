@@ -3,6 +3,7 @@ ghost use Rattle.std.specs.Prelude.{◌≡◌, ◌<◌, ◌≤◌, map, IfOk};
 ghost use Rattle.std.specs.List.{range_with_len};
 ghost use Rattle.nego_model.specs.Negotiation.{IsDeterministic};
 ghost use Rattle.nego_model.specs.Acyclic.{IsAcyclic};
+ghost use Rattle.nego_model.specs.Occurring.{IsSound};
 ghost use Rattle.nego_model.specs.Diagram.{negotiation_of};
 ghost use Rattle.nego_reader.specs.Content.{agent_content, atom_content, content_of};
 ghost use Rattle.nego_reader.specs.Printable.{IsPrintableDiagram, FitsPart};
@@ -66,8 +67,8 @@ fn parsed(alloc: Global, n: u32) -> Result<Parsed, Memory>
     })
 }
 
-/// The diagram of n atoms that the generator makes, n from 2 to 64. No rule of shape refuses it, it is deterministic and
-/// acyclic, and its printed text is an input.
+/// The diagram of n atoms that the generator makes, n from 2 to 64. No rule of shape refuses it, it is deterministic,
+/// acyclic and sound, and its printed text is an input.
 pub fn make_diagram(alloc: Global, n: u32) -> Result<Parsed, Memory>
     requires some { 2 ≤ n }
     requires few { n ≤ 64 }
@@ -76,6 +77,7 @@ pub fn make_diagram(alloc: Global, n: u32) -> Result<Parsed, Memory>
     ensures shaped { IfOk result (λ p. HasShape (content_of p)) }
     ensures deterministic { IfOk result (λ p. IsDeterministic (negotiation_of (diagram_in (content_of p)))) }
     ensures acyclic { IfOk result (λ p. IsAcyclic (negotiation_of (diagram_in (content_of p)))) }
+    ensures sound { IfOk result (λ p. IsSound (negotiation_of (diagram_in (content_of p)))) }
     ensures printable { IfOk result IsPrintableDiagram }
     ensures fits { IfOk result (FitsPart 262144) }
 {

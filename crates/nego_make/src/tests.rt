@@ -4,35 +4,8 @@ use nego_reader::print_diagram;
 use std::process::Abort;
 use std::test::Fail;
 
-/// A count of atoms, and the text of the diagram.
-type Row = (u32, &'static [u8]);
-
-static ROWS: [Row; 2] = [
-    (
-        2,
-        b"\
-nego 1
-agent a0 4
-agent a1 4
-agent a2 4
-agent a3 4
-atom m0 a0 a1 a2 a3
-out go
-case :
-next m1 a0 a1 a2 a3
-atom m1 a0 a1 a2 a3
-out good
-case :
-out bad
-case : a0:=0
-first m0
-last m1
-end
-",
-    ),
-    (
-        5,
-        b"\
+/// The diagram of five atoms.
+const FIVE: &[u8] = b"\
 nego 1
 agent a0 4
 agent a1 4
@@ -72,17 +45,12 @@ case : a0:=0
 first m0
 last m4
 end
-",
-    ),
-];
+";
 
 #[test]
 fn diagrams_are_made(rt: HostRuntime) -> Result<(), Fail> {
-    for (n, text) in ROWS {
-        assert!(rt; 2 <= n && n <= 64);
-        let made = make_diagram(rt.alloc(), n)?;
-        let printed = print_diagram(rt.alloc(), &made)?;
-        assert!(rt; printed.as_slice() == text);
-    }
+    let made = make_diagram(rt.alloc(), 5)?;
+    let printed = print_diagram(rt.alloc(), &made)?;
+    assert!(rt; printed.as_slice() == FIVE);
     Ok(())
 }

@@ -2,6 +2,7 @@ use Rattle.std.proofs.Common.{◌≡◌, sym, subst}
 use Rattle.std.proofs.lemmas.Result.{IfOk-weaker}
 use Rattle.nego_model.specs.Negotiation.{IsDeterministic}
 use Rattle.nego_model.specs.Acyclic.{IsAcyclic}
+use Rattle.nego_model.specs.Occurring.{IsSound}
 use Rattle.nego_model.specs.Diagram.{negotiation_of}
 use Rattle.nego_reader.specs.Content.{Content, content_of}
 use Rattle.nego_reader.specs.Printable.{IsPrintableDiagram, FitsPart}
@@ -12,6 +13,7 @@ use Rattle.nego_make.specs.Generated.{generated}
 use Rattle.nego_make.proofs.NameWords.{named_words}
 use Rattle.nego_make.proofs.Conditions.{shaped}
 use Rattle.nego_make.proofs.Edges.{deterministic, acyclic}
+use Rattle.nego_make.proofs.SoundMade.{sound}
 use Rattle.nego_make.proofs.GoodLines.{IsGoodContent, good_printable, good_fits}
 use Rattle.nego_make.proofs.PrintedMade.{good_made}
 use Rattle.nego_make.proofs.making.make_diagram.Goals as goal
@@ -33,6 +35,11 @@ pub returns-clause-acyclic : goal.returns-clause-acyclic
 returns-clause-acyclic c =
     let Is : Content → Type 0 = λ content. IsAcyclic (negotiation_of (diagram_in content)) in
     IfOk-weaker c.parsed.result (λ p. content_of p ≡ generated c.args.n) (λ p. Is (content_of p)) (λ p e. subst Is (sym e) (acyclic c.args.n c.requires.some c.requires.few)) c.parsed.ensures
+
+pub returns-clause-sound : goal.returns-clause-sound
+returns-clause-sound c =
+    let Is : Content → Type 0 = λ content. IsSound (negotiation_of (diagram_in content)) in
+    IfOk-weaker c.parsed.result (λ p. content_of p ≡ generated c.args.n) (λ p. Is (content_of p)) (λ p e. subst Is (sym e) (sound c.args.n c.requires.some c.requires.few)) c.parsed.ensures
 
 pub returns-clause-printable : goal.returns-clause-printable
 returns-clause-printable c =
