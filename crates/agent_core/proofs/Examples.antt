@@ -32,7 +32,7 @@ choose k = record { outcome = k; pick = 0 }
 -- what is seen of a world: the history, the journals, and what was sent
 pub record Seen : Type 0 where
   pub history : List Entry
-  pub journals : List (List journal.Entry)
+  pub journals : List (List journal.PlainRecord)
   pub sent : List Message
 
 -- what is seen after events from the beginning on, at data 0, or why one is refused

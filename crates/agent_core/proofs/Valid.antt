@@ -11,23 +11,23 @@ use Rattle.std.proofs.lemmas.Bool.{cases_lt}
 use Rattle.std.proofs.lemmas.Option.{same_Some, none-some}
 use Rattle.std.proofs.Math.Seq.{take-append_seam}
 use Rattle.agent_msg.specs.Messages.{ReadyMessage}
-use Rattle.agent_msg.specs.Records.{Share, Entry, Moved, Decided}
+use Rattle.agent_msg.specs.Records.{Share, PlainRecord, Moved, Decided}
 use Rattle.nego_model.specs.Diagram.{PlainDiagram, nexts_of}
 use Rattle.std.specs.Option.{option_map, option_map_or}
 use Rattle.agent_core.proofs.Shares.{found_share}
 use Rattle.agent_core.specs.Agents.{PlainAgent, size_of, share_of, value_after, held_from, nothing_held, record_outcome, recorded, beginning, left_by, IsStep, AreSteps, IsForAgent, IsLeftByRecords, IsValid}
 
 -- what records leave, and one more
-pub left_by-push : (diagram : PlainDiagram) (a start : ℕ) (records : List Entry) (r : Entry) → left_by diagram a start (records ++ r ∷ []) ≡ recorded diagram (left_by diagram a start records) r
+pub left_by-push : (diagram : PlainDiagram) (a start : ℕ) (records : List PlainRecord) (r : PlainRecord) → left_by diagram a start (records ++ r ∷ []) ≡ recorded diagram (left_by diagram a start records) r
 left_by-push diagram a start records r = fold-append (recorded diagram) (beginning diagram a start) records (r ∷ [])
 
 -- what an agent holds says nothing of its steps
-pub step_holding : (diagram : PlainDiagram) (agent : PlainAgent) (held : List (Option ReadyMessage)) (r : Entry) → IsStep diagram (record agent { held = held }) r → IsStep diagram agent r
+pub step_holding : (diagram : PlainDiagram) (agent : PlainAgent) (held : List (Option ReadyMessage)) (r : PlainRecord) → IsStep diagram (record agent { held = held }) r → IsStep diagram agent r
 step_holding diagram agent held (Moved n o after) s = record { at = s.at; outcome = s.outcome; led = s.led; below = s.below }
 step_holding diagram agent held (Decided n o shares) s = record { at = s.at; outcome = s.outcome; leads = s.leads; parties = s.parties; below = s.below; visit = s.visit }
 
 -- an agent that its records leave, and one more record
-pub left-recorded : (diagram : PlainDiagram) (agent : PlainAgent) (r : Entry) → IsLeftByRecords diagram agent → IsLeftByRecords diagram (recorded diagram agent r)
+pub left-recorded : (diagram : PlainDiagram) (agent : PlainAgent) (r : PlainRecord) → IsLeftByRecords diagram agent → IsLeftByRecords diagram (recorded diagram agent r)
 left-recorded diagram agent r e =
     ap (λ g. recorded diagram g r) e ∙ ap {A = PlainAgent} (λ g. record g { held = agent.held }) (sym (left_by-push diagram agent.id agent.start agent.records r))
 
@@ -40,7 +40,7 @@ pushed_at (z ∷ zs) x y (suc i) h =
     ⊎_elim (λ k. inl (omega (arith, k.0), k.1)) (λ k. inr (omega (arith, k.0), k.1)) (pushed_at zs x y i h)
 
 -- steps, and one more
-pub steps-push : (diagram : PlainDiagram) (a start : ℕ) (records : List Entry) (r : Entry) → AreSteps diagram a start records → IsStep diagram (left_by diagram a start records) r → AreSteps diagram a start (records ++ r ∷ [])
+pub steps-push : (diagram : PlainDiagram) (a start : ℕ) (records : List PlainRecord) (r : PlainRecord) → AreSteps diagram a start records → IsStep diagram (left_by diagram a start records) r → AreSteps diagram a start (records ++ r ∷ [])
 steps-push diagram a start records r steps step i x at =
     ⊎_elim before last (pushed_at records r x i at)
   where
@@ -53,7 +53,7 @@ steps-push diagram a start records r steps step i x at =
         subst (λ xs. IsStep diagram (left_by diagram a start xs) x) front (subst (λ y. IsStep diagram (left_by diagram a start records) y) h.1 step)
 
 -- the value after a step is below the agent's size
-pub value_after-below : (diagram : PlainDiagram) (agent : PlainAgent) (r : Entry) → IsStep diagram agent r → value_after agent.id r < size_of diagram agent.id
+pub value_after-below : (diagram : PlainDiagram) (agent : PlainAgent) (r : PlainRecord) → IsStep diagram agent r → value_after agent.id r < size_of diagram agent.id
 value_after-below diagram agent (Moved n o after) s = s.below
 value_after-below diagram agent (Decided n o shares) s = go (share_of agent.id shares) refl s.visit
   where
@@ -65,7 +65,7 @@ value_after-below diagram agent (Decided n o shares) s = go (share_of agent.id s
         (subst (λ a. share.after < size_of diagram a) found.1 (All-contains (λ s. s.after < size_of diagram s.agent) shares share s.below found.0))
 
 -- an agent that records a step stays valid
-pub valid-recorded : (diagram : PlainDiagram) (agent : PlainAgent) (r : Entry) → IsValid diagram agent → IsStep diagram agent r →
+pub valid-recorded : (diagram : PlainDiagram) (agent : PlainAgent) (r : PlainRecord) → IsValid diagram agent → IsStep diagram agent r →
     ((n : ℕ) → slice_get (nexts_of diagram (record_outcome r) agent.id) 0 ≡ Some n → n < length diagram.atoms) → IsValid diagram (recorded diagram agent r)
 valid-recorded diagram agent r ok step place = record {
   known = ok.known;
@@ -111,17 +111,17 @@ valid-held diagram agent ready ok own = record {
 }
 
 -- the agent that records leave has them, its number, and its value at the start
-pub left_by-same : (diagram : PlainDiagram) (agent : PlainAgent) (records : List Entry) →
+pub left_by-same : (diagram : PlainDiagram) (agent : PlainAgent) (records : List PlainRecord) →
     ((fold (recorded diagram) agent records).id ≡ agent.id) × ((fold (recorded diagram) agent records).start ≡ agent.start) × ((fold (recorded diagram) agent records).records ≡ agent.records ++ records) × ((fold (recorded diagram) agent records).held ≡ agent.held)
 left_by-same diagram agent [] = (refl, refl, sym (append-nil agent.records), refl)
 left_by-same diagram agent (r ∷ records) =
     let later = left_by-same diagram (recorded diagram agent r) records in (later.0, later.1, later.2 ∙ append_assoc agent.records (r ∷ []) records, later.3)
 
-pub left_by-records : (diagram : PlainDiagram) (a start : ℕ) (records : List Entry) → (left_by diagram a start records).records ≡ records
+pub left_by-records : (diagram : PlainDiagram) (a start : ℕ) (records : List PlainRecord) → (left_by diagram a start records).records ≡ records
 left_by-records diagram a start records = (left_by-same diagram (beginning diagram a start) records).2
 
 -- a valid agent that records leave has them as its steps
-pub valid_left : (diagram : PlainDiagram) (a start : ℕ) (records : List Entry) → IsValid diagram (left_by diagram a start records) → AreSteps diagram a start records
+pub valid_left : (diagram : PlainDiagram) (a start : ℕ) (records : List PlainRecord) → IsValid diagram (left_by diagram a start records) → AreSteps diagram a start records
 valid_left diagram a start records ok =
     let same = left_by-same diagram (beginning diagram a start) records in
     subst (λ xs. AreSteps diagram a start xs) same.2

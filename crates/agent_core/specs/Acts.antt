@@ -6,12 +6,12 @@ use Rattle.std.specs.Option.{option_map_or, option_and_then, option_to_list}
 use Rattle.nego_base.specs.Members.{is_in}
 use Rattle.nego_model.specs.Diagram.{PlainDiagram, parties_of, leader_of, outcomes_from}
 use Rattle.agent_msg.specs.Messages.{ReadyMessage, DecideMessage, Message, ReadyOf, DecideOf}
-use Rattle.agent_msg.specs.Records.{Entry, Moved, decide_of}
+use Rattle.agent_msg.specs.Records.{PlainRecord, Moved, decide_of}
 use Rattle.agent_core.specs.Agents.{PlainAgent, size_of, held_from, record_atom, shares_in, share_of, recorded}
 
 -- what an agent does: what it records, what it holds afterwards, and what it sends
 pub record Act : Type 0 where
-  pub kept : Option Entry
+  pub kept : Option PlainRecord
   pub held : List (Option ReadyMessage)
   pub sends : List Message
 
@@ -42,7 +42,7 @@ telling diagram agent = sending agent (map ReadyOf (option_to_list (ready_of dia
 -- what becomes of a message that is given to an agent
 pub data Given : Type 0 where
   Kept : Given
-  Recorded : Entry → Given
+  Recorded : PlainRecord → Given
   Again : DecideMessage → Given
   Old : Given
   Stranger : Given
@@ -61,11 +61,11 @@ is_for diagram agent ready =
     is_leader diagram agent.id ready.atom && is_in ready.from (parties_of diagram ready.atom) && not (ready.from == agent.id) && nat_lt ready.value (size_of diagram ready.from)
 
 -- whether the record is a decision with the agent, whose visit there passes the test
-abbrev pub has_visit : ℕ → (ℕ → Bool) → Entry → Bool
+abbrev pub has_visit : ℕ → (ℕ → Bool) → PlainRecord → Bool
 has_visit p test r = option_map_or (λ s. test s.visit) (share_of p (shares_in r)) false
 
 -- the answer to a Ready on which the agent decided: the Decide again, where the decision was of that atom
-abbrev pub answered_by : PlainAgent → ReadyMessage → Entry → Given
+abbrev pub answered_by : PlainAgent → ReadyMessage → PlainRecord → Given
 answered_by agent ready decision =
     if record_atom decision == ready.atom then option_map_or Again (decide_of agent.id ready.from decision) Stranger else Stranger
 

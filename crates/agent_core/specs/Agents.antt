@@ -1,11 +1,12 @@
 -- One agent: what it keeps, and where its records leave it.
-use Rattle.std.specs.Prelude.{◌≡◌, ◌≢◌, ℕ, ◌<◌, ◌==◌, List, [], ◌∷◌, ◌++◌, length, map, take, find, fold, replicate, slice_get, slice_index, slice_index_or, Option, Some, None, All, IsTrue}
+use Rattle.std.specs.Prelude.{◌≡◌, ◌≢◌, ℕ, ◌<◌, ◌==◌, List, [], ◌∷◌, ◌++◌, length, map, take, find, fold, replicate, slice_get, slice_index_or, Option, Some, None, All, IsTrue}
 use Rattle.std.specs.Option.{option_map, option_map_or}
 use Rattle.nego_base.specs.Members.{is_in}
+use Rattle.nego_data.specs.Places.{value_of}
 use Rattle.nego_model.specs.Negotiation.{IsOutcome}
 use Rattle.nego_model.specs.Diagram.{PlainDiagram, negotiation_of, parties_of, leader_of, nexts_of}
 use Rattle.agent_msg.specs.Messages.{ReadyMessage}
-use Rattle.agent_msg.specs.Records.{Share, Entry, Moved, Decided}
+use Rattle.agent_msg.specs.Records.{Share, PlainRecord, Moved, Decided}
 
 -- An agent: its number, the value that it began with, the atom at which it is and none where it is finished, its value,
 -- its records, and for each agent the Ready that it holds from it.
@@ -14,12 +15,12 @@ pub record PlainAgent : Type 0 where
   pub start : ℕ
   pub at : Option ℕ
   pub value : ℕ
-  pub records : List Entry
+  pub records : List PlainRecord
   pub held : List (Option ReadyMessage)
 
 -- the size of an agent's data
 abbrev pub size_of : PlainDiagram → ℕ → ℕ
-size_of diagram a = slice_index diagram.sizes a
+size_of diagram a = value_of (record { 0 = a }) diagram.sizes
 
 -- the Ready that is held from an agent
 abbrev pub held_from : PlainAgent → ℕ → Option ReadyMessage
@@ -30,17 +31,17 @@ abbrev pub nothing_held : List (Option ReadyMessage)
 nothing_held = replicate 16 None
 
 -- the atom of a record
-abbrev pub record_atom : Entry → ℕ
+abbrev pub record_atom : PlainRecord → ℕ
 record_atom (Moved n o after) = n
 record_atom (Decided n o shares) = n
 
 -- the outcome of a record
-abbrev pub record_outcome : Entry → ℕ
+abbrev pub record_outcome : PlainRecord → ℕ
 record_outcome (Moved n o after) = o
 record_outcome (Decided n o shares) = o
 
 -- the parties of a decision, with their visits and values after; a move has none
-abbrev pub shares_in : Entry → List Share
+abbrev pub shares_in : PlainRecord → List Share
 shares_in (Moved n o after) = []
 shares_in (Decided n o shares) = shares
 
@@ -49,12 +50,12 @@ abbrev pub share_of : ℕ → List Share → Option Share
 share_of a shares = find (λ s. s.agent == a) shares
 
 -- the value that an agent has after a record of its own
-abbrev pub value_after : ℕ → Entry → ℕ
+abbrev pub value_after : ℕ → PlainRecord → ℕ
 value_after a (Moved n o after) = after
 value_after a (Decided n o shares) = option_map_or (λ s. s.after) (share_of a shares) 0
 
 -- the agent after one more record: at its next atom, with its value after
-abbrev pub recorded : PlainDiagram → PlainAgent → Entry → PlainAgent
+abbrev pub recorded : PlainDiagram → PlainAgent → PlainRecord → PlainAgent
 recorded diagram agent r = record agent {
   at = slice_get (nexts_of diagram (record_outcome r) agent.id) 0;
   value = value_after agent.id r;
@@ -66,7 +67,7 @@ abbrev pub beginning : PlainDiagram → ℕ → ℕ → PlainAgent
 beginning diagram a start = record { id = a; start = start; at = Some diagram.first; value = start; records = []; held = nothing_held }
 
 -- the agent that records leave, one after another
-abbrev pub left_by : PlainDiagram → ℕ → ℕ → List Entry → PlainAgent
+abbrev pub left_by : PlainDiagram → ℕ → ℕ → List PlainRecord → PlainAgent
 left_by diagram a start records = fold (recorded diagram) (beginning diagram a start) records
 
 -- A move is a step of an agent: it is of the agent's atom, which another leads, and of one of the atom's outcomes, and
@@ -89,13 +90,13 @@ pub record IsDecisionOf (diagram : PlainDiagram) (agent : PlainAgent) (n o : ℕ
   pub visit : option_map (λ s. s.visit) (share_of agent.id shares) ≡ Some (length agent.records)
 
 -- The record is a step of the agent.
-abbrev pub IsStep : PlainDiagram → PlainAgent → Entry → Type 0
+abbrev pub IsStep : PlainDiagram → PlainAgent → PlainRecord → Type 0
 IsStep diagram agent (Moved n o after) = IsMoveOf diagram agent n o after
 IsStep diagram agent (Decided n o shares) = IsDecisionOf diagram agent n o shares
 
 -- Each record is a step of the agent that the records before it leave.
-abbrev pub AreSteps : PlainDiagram → ℕ → ℕ → List Entry → Type 0
-AreSteps diagram a start records = (i : ℕ) (r : Entry) → slice_get records i ≡ Some r → IsStep diagram (left_by diagram a start (take i records)) r
+abbrev pub AreSteps : PlainDiagram → ℕ → ℕ → List PlainRecord → Type 0
+AreSteps diagram a start records = (i : ℕ) (r : PlainRecord) → slice_get records i ≡ Some r → IsStep diagram (left_by diagram a start (take i records)) r
 
 -- A Ready is one for an agent: it is addressed to it, for an atom that it leads, from another party of that atom, with a
 -- value below that party's size.

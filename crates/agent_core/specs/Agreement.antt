@@ -5,7 +5,7 @@ use Rattle.nego_model.specs.Joining.{By, IsHistory, steps_of}
 use Rattle.nego_model.specs.Joining as model
 use Rattle.nego_model.specs.Projection.{own_entries}
 use Rattle.nego_model.specs.Diagram.{PlainDiagram, negotiation_of, relation_of, parties_of, leader_of}
-use Rattle.agent_msg.specs.Records.{Share, Entry, Moved, Decided}
+use Rattle.agent_msg.specs.Records.{Share, PlainRecord, Moved, Decided}
 use Rattle.agent_core.specs.Deciding.{value_in}
 
 -- how often an agent took part in entries
@@ -18,23 +18,23 @@ share_in diagram before entry p = record { agent = p; visit = visits diagram p b
 
 -- The record that a party makes of an entry behind others: the leader's is the decision with the shares of the parties,
 -- another's is its move.
-abbrev pub record_of : PlainDiagram → List model.Entry → model.Entry → ℕ → Entry
+abbrev pub record_of : PlainDiagram → List model.Entry → model.Entry → ℕ → PlainRecord
 record_of diagram before entry a =
     if leader_of diagram entry.step.0 == a then Decided entry.step.0 entry.step.1 (map (share_in diagram before entry) (parties_of diagram entry.step.0)) else Moved entry.step.0 entry.step.1 (value_in diagram entry.joint a)
 
 -- the records that an agent makes of entries behind others: one of each entry in which it takes part
-abbrev pub records_behind : PlainDiagram → ℕ → List model.Entry → List model.Entry → List Entry
+abbrev pub records_behind : PlainDiagram → ℕ → List model.Entry → List model.Entry → List PlainRecord
 records_behind diagram a before [] = []
 records_behind diagram a before (entry ∷ entries) =
     if is_in a (parties_of diagram entry.step.0) then record_of diagram before entry a ∷ records_behind diagram a (before ++ entry ∷ []) entries else records_behind diagram a (before ++ entry ∷ []) entries
 
 -- the journal that a history gives an agent
-abbrev pub journal_of : PlainDiagram → List model.Entry → ℕ → List Entry
+abbrev pub journal_of : PlainDiagram → List model.Entry → ℕ → List PlainRecord
 journal_of diagram history a = records_behind diagram a [] history
 
 -- A journal agrees with the history: it is the one that the history gives the agent, or lacks only the last record,
 -- which is a move.
-abbrev pub Agrees : PlainDiagram → List model.Entry → ℕ → List Entry → Type 0
+abbrev pub Agrees : PlainDiagram → List model.Entry → ℕ → List PlainRecord → Type 0
 Agrees diagram history a journal =
     (journal ≡ journal_of diagram history a) ⊎ ((n o after : ℕ) × (journal ++ Moved n o after ∷ [] ≡ journal_of diagram history a))
 
@@ -43,6 +43,6 @@ abbrev pub IsHistoryOf : PlainDiagram → ℕ → List model.Entry → Type 0
 IsHistoryOf diagram start history = IsHistory (negotiation_of diagram) (By (relation_of diagram)) start history
 
 -- Journals agree with a history of the diagram.
-pub record AgreeWith (diagram : PlainDiagram) (start : ℕ) (history : List model.Entry) (journals : List (List Entry)) : Type 0 where
+pub record AgreeWith (diagram : PlainDiagram) (start : ℕ) (history : List model.Entry) (journals : List (List PlainRecord)) : Type 0 where
   pub run : IsHistoryOf diagram start history
   pub each : (a : ℕ) → a < length diagram.agents → Agrees diagram history a (slice_index_or journals a [])

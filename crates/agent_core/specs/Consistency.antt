@@ -4,7 +4,7 @@ use Rattle.std.specs.List.{Contains, list_any}
 use Rattle.nego_data.specs.Data.{data_count}
 use Rattle.nego_model.specs.Diagram.{PlainDiagram}
 use Rattle.agent_msg.specs.Messages.{ReadyMessage, DecideMessage, Message, ReadyOf, DecideOf}
-use Rattle.agent_msg.specs.Records.{Entry, decide_of}
+use Rattle.agent_msg.specs.Records.{PlainRecord, decide_of}
 use Rattle.agent_core.specs.Agents.{PlainAgent, held_from, left_by}
 use Rattle.agent_core.specs.Acts.{ready_of, has_visit}
 use Rattle.agent_core.specs.Worlds.{PlainWorld, start_of, agent_of}
@@ -29,7 +29,7 @@ pub record WasTold (diagram : PlainDiagram) (world : PlainWorld) (ready : ReadyM
 -- A Decide was decided: it is what its sender tells of a decision in its journal.
 pub record WasDecided (diagram : PlainDiagram) (world : PlainWorld) (decide : DecideMessage) : Type 0 where
   pub sender : decide.from < length diagram.agents
-  pub decision : Entry
+  pub decision : PlainRecord
   pub recorded : Contains (agent_of diagram world decide.from).records decision
   pub told : decide_of decide.from decide.to decision ≡ Some decide
 

@@ -6,16 +6,17 @@ use Rattle.std.specs.Result.{result_map_both, result_unwrap_or}
 use Rattle.nego_base.specs.Members.{is_in}
 use Rattle.nego_base.specs.Results.{◌>>=◌}
 use Rattle.nego_data.specs.Data.{split, joint}
+use Rattle.nego_data.specs.Places.{value_of}
 use Rattle.nego_model.specs.Diagram.{PlainDiagram, parties_of, outcomes_from, outcome_table}
 use Rattle.agent_msg.specs.Messages.{ReadyMessage, Message, DecideOf}
-use Rattle.agent_msg.specs.Records.{Share, Entry, Decided, decide_of}
+use Rattle.agent_msg.specs.Records.{Share, PlainRecord, Decided, decide_of}
 use Rattle.agent_core.specs.declared.choice.Choice.{Choice}
 use Rattle.agent_core.specs.Agents.{PlainAgent, held_from}
 use Rattle.agent_core.specs.Acts.{Act, after_act, is_leader, own_ready}
 
 -- the value of an agent in joint data
 abbrev pub value_in : PlainDiagram → ℕ → ℕ → ℕ
-value_in diagram d a = slice_index (split diagram.sizes d) a
+value_in diagram d a = value_of (record { 0 = a }) (split diagram.sizes d)
 
 -- the Ready that is held from an agent for this atom
 abbrev pub held_for : PlainAgent → ℕ → ℕ → Option ReadyMessage
@@ -77,7 +78,7 @@ abbrev pub share_at : PlainDiagram → PlainAgent → ℕ → ℕ → ℕ → Sh
 share_at diagram agent n e p = record { agent = p; visit = option_map_or (λ ready. ready.visit) (known_of diagram agent n p) 0; after = value_in diagram e p }
 
 -- the decision of the leader of an atom by a choice
-abbrev pub decision_by : PlainDiagram → PlainAgent → ℕ → Choice → Entry
+abbrev pub decision_by : PlainDiagram → PlainAgent → ℕ → Choice → PlainRecord
 decision_by diagram agent n choice =
     let d = known_joint diagram agent n in
     Decided n (chosen_outcome diagram n d choice) (map (share_at diagram agent n (chosen_joint diagram n d choice)) (parties_of diagram n))
@@ -91,7 +92,7 @@ abbrev pub without_from : List ℕ → List (Option ReadyMessage) → List (Opti
 without_from agents held = map (unless_from agents) held
 
 -- what a leader sends of a decision: a Decide to each other party, in rising order
-abbrev pub decides_of : ℕ → List ℕ → Entry → List Message
+abbrev pub decides_of : ℕ → List ℕ → PlainRecord → List Message
 decides_of leader parties decision = flat_map (λ p. map DecideOf (option_to_list (decide_of leader p decision))) parties
 
 -- the act of deciding: the decision is recorded, the Readies of the parties are dropped, and the parties are told
@@ -101,7 +102,7 @@ deciding diagram agent n choice =
     record { kept = Some decision; held = without_from (parties_of diagram n) agent.held; sends = decides_of agent.id (parties_of diagram n) decision }
 
 -- the decision of an agent by a choice, or why it doesn't decide
-abbrev pub decided : PlainDiagram → PlainAgent → Choice → Result Entry Undecided
+abbrev pub decided : PlainDiagram → PlainAgent → Choice → Result PlainRecord Undecided
 decided diagram agent choice = atom_to_decide diagram agent >>= λ n. Ok (decision_by diagram agent n choice)
 
 -- the act of an agent that decides by a choice, or why it doesn't decide

@@ -2,7 +2,7 @@
 use Rattle.std.specs.Prelude.{◌<◌, ◌≤◌, length, map, Result, Ok, Err, ⊤}
 use Rattle.std.specs.Option.{option_map}
 use Rattle.agent_msg.specs.Messages.{ready_message, decide_message}
-use Rattle.agent_msg.specs.Records.{Entry, entry, IsTidy}
+use Rattle.agent_msg.specs.Records.{PlainRecord, entry, IsTidy}
 use Rattle.agent_core.specs.declared.agent.Agent.TheInside.{Inside}
 use Rattle.agent_core.specs.declared.answers.Give.{Give}
 use Rattle.agent_core.specs.declared.answers.Give.TheVariants as gives
@@ -42,7 +42,7 @@ plain_give gives.Old = Old
 plain_give gives.Stranger = Stranger
 
 -- the decision, or why there is none, in plain numbers
-abbrev pub plain_decided : Decided → Result Entry Undecided
+abbrev pub plain_decided : Decided → Result PlainRecord Undecided
 plain_decided (decideds.Done r) = Ok (entry r)
 plain_decided decideds.Finished = Err Finished
 plain_decided decideds.NotLeader = Err NotLeader

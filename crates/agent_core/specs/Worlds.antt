@@ -9,7 +9,7 @@ use Rattle.nego_model.specs.Joining.{joint_after}
 use Rattle.nego_model.specs.Joining as model
 use Rattle.nego_model.specs.Diagram.{PlainDiagram}
 use Rattle.agent_msg.specs.Messages.{ReadyMessage, DecideMessage, Message, ReadyOf, DecideOf}
-use Rattle.agent_msg.specs.Records.{Share, Entry, Moved, Decided}
+use Rattle.agent_msg.specs.Records.{Share, PlainRecord, Moved, Decided}
 use Rattle.agent_core.specs.declared.choice.Choice.{Choice}
 use Rattle.agent_core.specs.Agents.{PlainAgent, nothing_held, share_of, beginning}
 use Rattle.agent_core.specs.Acts.{Act, after_act, telling, given, taking}
@@ -94,7 +94,7 @@ changed diagram d shares =
     joint diagram.sizes (map (λ a. option_map_or (λ s. s.after) (share_of a shares) (value_in diagram d a)) (range_with_len 0 (length diagram.agents)))
 
 -- a history with a record that was kept: a decision is its next entry, and a move is in it already
-abbrev pub entered : PlainDiagram → ℕ → List model.Entry → Entry → List model.Entry
+abbrev pub entered : PlainDiagram → ℕ → List model.Entry → PlainRecord → List model.Entry
 entered diagram start history (Moved n o after) = history
 entered diagram start history (Decided n o shares) = history ++ record { step = (n, o); joint = changed diagram (joint_after start history) shares } ∷ []
 

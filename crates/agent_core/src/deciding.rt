@@ -6,7 +6,7 @@ ghost use Rattle.nego_base.specs.Members.{is_in};
 ghost use Rattle.nego_model.specs.Negotiation.{IsDeterministic};
 ghost use Rattle.nego_model.specs.Diagram.{negotiation_of};
 ghost use Rattle.agent_msg.specs.Messages.{ready_message};
-ghost use Rattle.agent_msg.specs.Records.{Entry, entry, IsTidy};
+ghost use Rattle.agent_msg.specs.Records.{PlainRecord, entry, IsTidy};
 ghost use Rattle.agent_core.specs.Agents.{IsStep, IsValid};
 ghost use Rattle.agent_core.specs.Deciding.{atom_to_decide, decision_by, unless_from, without_from, decided, after_decision, reduces};
 ghost use Rattle.agent_core.specs.Views.{plain_decided, plain_refused, IsTidyDecided};
@@ -37,7 +37,7 @@ impl Agent {
         requires deterministic { IsDeterministic (negotiation_of d.now) }
         requires valid { IsValid d.now self.now.plain }
         ensures answer { plain_decided result ≡ decided d.now self.now.plain c }
-        ensures step { (e : Entry) → plain_decided result ≡ Ok e → IsStep d.now self.now.plain e }
+        ensures step { (e : PlainRecord) → plain_decided result ≡ Ok e → IsStep d.now self.now.plain e }
         ensures tidy { IsTidyDecided result }
     {
         match self.atom_to_decide(d) {

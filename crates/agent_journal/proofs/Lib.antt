@@ -1,4 +1,5 @@
 pub mod FileLaws
+pub mod GrowthLaws
 pub mod ListLaws
 pub mod LoadLaws
 pub mod PutCalls

@@ -4,8 +4,8 @@ use Rattle.std.proofs.lemmas.List.{append-nil, map-append, drop-drop, length-map
 use Rattle.std.proofs.lemmas.List.Elements.{All-nil, All-push}
 use Rattle.nego_io.specs.Disks.{ToldDisks, IsRead}
 use Rattle.agent_msg.specs.declared.record.Record.{Record}
-use Rattle.agent_msg.specs.Records.{Entry, entry, entries, IsTidy}
-use Rattle.agent_msg.specs.Bytes.{EntryFits, SpellsEntry, entry_bytes}
+use Rattle.agent_msg.specs.Records.{PlainRecord, entry, entries, IsTidy}
+use Rattle.agent_msg.specs.Bytes.{RecordFits, SpellsRecord, entry_bytes}
 use Rattle.agent_journal.specs.Slots.{begins_kept, records_within, kept, StandsFor, IsFirstBad, IsBadFirst, SaysFirst}
 use Rattle.agent_journal.specs.Journal.{IsOnlyRead, SlotFails, LoadFails}
 use Rattle.agent_journal.specs.declared.fault.JournalFault.{JournalFault}
@@ -15,7 +15,7 @@ use Rattle.agent_journal.proofs.FileLaws.{within-none, within-some, within-zero}
 
 -- So many records were read of a file; the others are those of what stands behind their slots.
 pub record AreRead (file : List ℕ) (k : ℕ) (records : List Record) : Type 0 where
-  pub fit : All EntryFits (entries records)
+  pub fit : All RecordFits (entries records)
   pub split : kept file ≡ map entry_bytes (entries records) ++ records_within (10000 - k) (drop (128 * k) file)
 
 -- The disk was only read so far with no fault, and where it tells these records were read of it.
@@ -27,11 +27,11 @@ pub record IsLoading (i : ℕ) (a b : ToldDisks) (k : ℕ) (records : List Recor
   pub are : IsTrue b.telling → AreRead (a.content i) k records
 
 pub read-none-yet : (file : List ℕ) → AreRead file 0 []
-read-none-yet file = record { fit = All-nil EntryFits; split = refl }
+read-none-yet file = record { fit = All-nil RecordFits; split = refl }
 
 -- one more record
 pub read-more : (file : List ℕ) (k : ℕ) (records : List Record) (r : Record) → AreRead file k records → k < 10000 → begins_kept (drop (128 * k) file) ≡ true →
-    SpellsEntry (take 127 (drop 1 (drop (128 * k) file))) (entry r) → AreRead file (k + 1) (records ++ r ∷ [])
+    SpellsRecord (take 127 (drop 1 (drop (128 * k) file))) (entry r) → AreRead file (k + 1) (records ++ r ∷ [])
 read-more file k records r are few some spells =
     let rest : List ℕ = drop (128 * k) file in
     let more : 10000 - k ≡ suc (10000 - (k + 1)) = omega (arith, few) in
@@ -43,13 +43,13 @@ read-more file k records r are few some spells =
     ∙ ap (λ (xs : List ℕ). entry_bytes (entry r) ∷ records_within (10000 - (k + 1)) xs) place)) in
     let all : entries (records ++ r ∷ []) ≡ entries records ++ entry r ∷ [] = map-append entry records (r ∷ []) in
     record {
-      fit = subst (λ (es : List Entry). All EntryFits es) (sym all) (All-push EntryFits (entries records) (entry r) are.fit spells.fits);
+      fit = subst (λ (es : List PlainRecord). All RecordFits es) (sym all) (All-push RecordFits (entries records) (entry r) are.fit spells.fits);
       split =
           are.split
           ∙ (ap (λ (xs : List (List ℕ)). map entry_bytes (entries records) ++ xs) split
           ∙ (sym (append_assoc (map entry_bytes (entries records)) (entry_bytes (entry r) ∷ []) (records_within (10000 - (k + 1)) (drop (128 * (k + 1)) file)))
           ∙ ap (λ (xs : List (List ℕ)). xs ++ records_within (10000 - (k + 1)) (drop (128 * (k + 1)) file))
-          (sym (ap (λ (es : List Entry). map entry_bytes es) all ∙ map-append entry_bytes (entries records) (entry r ∷ [])))));
+          (sym (ap (λ (es : List PlainRecord). map entry_bytes es) all ∙ map-append entry_bytes (entries records) (entry r ∷ [])))));
     }
 
 -- the first slot that doesn't count ends the records
@@ -68,7 +68,7 @@ read-full file k records are full =
 
 -- a slot that counts and spells none
 pub read-bad : (file : List ℕ) (k : ℕ) (records : List Record) → AreRead file k records → length records ≡ k → k < 10000 → begins_kept (drop (128 * k) file) ≡ true →
-    ((e : Entry) → SpellsEntry (take 127 (drop 1 (drop (128 * k) file))) e → ⊥) → IsFirstBad file k
+    ((e : PlainRecord) → SpellsRecord (take 127 (drop 1 (drop (128 * k) file))) e → ⊥) → IsFirstBad file k
 read-bad file k records are count few some none =
     let rest : List ℕ = drop (128 * k) file in
     let more : 10000 - k ≡ suc (10000 - (k + 1)) = omega (arith, few) in

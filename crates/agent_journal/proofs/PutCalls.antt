@@ -1,7 +1,7 @@
 -- The calls that put a record on a disk.
 use Rattle.std.proofs.Common.{◌≡◌, ℕ, ◌+◌, ◌*◌, ◌<◌, ◌≤◌, IsTrue, inl, List, [], ◌∷◌, ◌++◌, length, sym, ◌∙◌, ap, subst, length-append}
 use Rattle.nego_io.specs.Disks.{ToldDisks, LeavesOnly, AreCallsOn, HasContent, IsSynced, overwritten, Torn}
-use Rattle.agent_msg.specs.Records.{Entry}
+use Rattle.agent_msg.specs.Records.{PlainRecord}
 use Rattle.agent_msg.specs.Bytes.{entry_bytes}
 use Rattle.agent_journal.specs.Slots.{kept, IsClosed}
 use Rattle.agent_journal.specs.Journal.{IsSettled, KeepsOrAdds}
@@ -10,10 +10,10 @@ use Rattle.std.proofs.lemmas.Option.{slice_get_within}
 use Rattle.agent_journal.proofs.PutLaws.{IsOpenEnded, open-ended, put-first, put-written, put_back, put-second, put-opened, put-kept, put-closed, put-place}
 
 -- the file with the record behind its gate
-abbrev pub with_gate : ℕ → List ℕ → ℕ → Entry → List ℕ
+abbrev pub with_gate : ℕ → List ℕ → ℕ → PlainRecord → List ℕ
 with_gate gate file count e = gated (kept file) gate (entry_bytes e) (put_back file count (entry_bytes e))
 
-module _ (a b : ToldDisks) (i count : ℕ) (e : Entry) (calls : AreCallsOn i a b) (settled : IsSettled a i count) where
+module _ (a b : ToldDisks) (i count : ℕ) (e : PlainRecord) (calls : AreCallsOn i a b) (settled : IsSettled a i count) where
   ready : IsTrue b.telling → IsOpenEnded (a.content i) count
   ready told = open-ended (a.content i) count (settled.all (calls.told told)) (settled.closed (calls.told told))
 

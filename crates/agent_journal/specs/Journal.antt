@@ -2,11 +2,11 @@
 use Rattle.std.specs.Prelude.{◌≡◌, ℕ, ◌+◌, ◌*◌, ◌≤◌, Bool, true, false, IsTrue, ◌⊎◌, List, [], ◌∷◌, ◌++◌, length, drop, Result, Ok, Err}
 use Rattle.nego_io.specs.Outside.{Rose}
 use Rattle.nego_io.specs.Disks.{ToldDisks, LeavesNow, IsRead, IsSynced}
-use Rattle.agent_msg.specs.Records.{Entry}
+use Rattle.agent_msg.specs.Records.{PlainRecord}
 use Rattle.agent_msg.specs.Bytes.{entry_bytes}
 use Rattle.agent_journal.specs.declared.fault.JournalFault.{JournalFault}
 use Rattle.agent_journal.specs.declared.fault.JournalFault.TheVariants.{DiskFault, Full, BadRecord, MustReload, Memory}
-use Rattle.agent_journal.specs.Slots.{kept, IsClosed, IsFirstBad, IsBadFirst}
+use Rattle.agent_journal.specs.Slots.{kept, StandsFor, IsClosed, IsFirstBad, IsBadFirst}
 
 -- A journal: how many records it has, and whether it has to be loaded again.
 pub record JournalState : Type 0 where
@@ -34,14 +34,14 @@ abbrev pub KeepsAll : List (List ℕ) → List ℕ → Type 0
 KeepsAll records file = kept file ≡ records
 
 -- The file keeps these records, or these and one more.
-abbrev pub KeepsOrAdds : List (List ℕ) → Entry → List ℕ → Type 0
+abbrev pub KeepsOrAdds : List (List ℕ) → PlainRecord → List ℕ → Type 0
 KeepsOrAdds records entry file = (kept file ≡ records) ⊎ (kept file ≡ records ++ entry_bytes entry ∷ [])
 
--- Where it is told, each image of the disk since that moment begins with these records.
-abbrev pub BeginsWith : List (List ℕ) → ℕ → ℕ → ToldDisks → Type 0
-BeginsWith records from i d =
+-- Where it is told, each image of the disk since that moment stands for a list that begins with this one.
+abbrev pub BeginsWith : List PlainRecord → ℕ → ℕ → ToldDisks → Type 0
+BeginsWith journal from i d =
     IsTrue d.telling →
-    (from ≤ d.moment) × ((t : ℕ) (image : List ℕ) → from ≤ t → t ≤ d.moment → d.leaves t i image → (more : List (List ℕ)) × (kept image ≡ records ++ more))
+    (from ≤ d.moment) × ((t : ℕ) (image : List ℕ) → from ≤ t → t ≤ d.moment → d.leaves t i image → (more : List PlainRecord) × StandsFor image (journal ++ more))
 
 -- The disk was only read, and no call on it failed.
 pub record IsOnlyRead (i : ℕ) (old new : ToldDisks) : Type 0 where

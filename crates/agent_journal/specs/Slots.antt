@@ -2,8 +2,8 @@
 use Rattle.std.specs.Prelude.{◌≡◌, ℕ, zero, suc, ◌*◌, Bool, true, false, ◌&&◌, ◌==◌, nat_lt, if◌then◌else◌, List, [], ◌∷◌, ◌++◌, length, map, take, drop, slice_index, slice_get, Option, Some, None, All}
 use Rattle.nego_io.specs.Disks.{Torn}
 use Rattle.agent_msg.specs.declared.record.Record.{Record}
-use Rattle.agent_msg.specs.Records.{Entry, entry}
-use Rattle.agent_msg.specs.Bytes.{EntryFits, SpellsEntry, entry_bytes}
+use Rattle.agent_msg.specs.Records.{PlainRecord, entry}
+use Rattle.agent_msg.specs.Bytes.{RecordFits, SpellsRecord, entry_bytes}
 
 -- the record of a file's first slot
 abbrev pub first_record : List ℕ → List ℕ
@@ -23,8 +23,8 @@ abbrev pub kept : List ℕ → List (List ℕ)
 kept file = records_within 10000 file
 
 -- The file stands for the list: its records, in order, are those that the file keeps.
-pub record StandsFor (file : List ℕ) (journal : List Entry) : Type 0 where
-  pub fit : All EntryFits journal
+pub record StandsFor (file : List ℕ) (journal : List PlainRecord) : Type 0 where
+  pub fit : All RecordFits journal
   pub same : kept file ≡ map entry_bytes journal
 
 -- The gate behind so many slots is there and closed.
@@ -38,20 +38,20 @@ pub record Closes (at : ℕ) (before file : List ℕ) : Type 0 where
 
 -- Record k is the first of those that the file keeps that spells nothing.
 pub record IsFirstBad (file : List ℕ) (k : ℕ) : Type 0 where
-  pub before : List Entry
+  pub before : List PlainRecord
   pub bad : List ℕ
   pub after : List (List ℕ)
   pub count : length before ≡ k
   pub split : kept file ≡ map entry_bytes before ++ bad ∷ after
-  pub fit : All EntryFits before
-  pub none : (e : Entry) → SpellsEntry bad e → ⊥
+  pub fit : All RecordFits before
+  pub none : (e : PlainRecord) → SpellsRecord bad e → ⊥
 
 -- A file's first slot doesn't count, or it counts and this is its record.
 abbrev pub SaysFirst : List ℕ → Option Record → Type 0
 SaysFirst file None = begins_kept file ≡ false
-SaysFirst file (Some r) = (begins_kept file ≡ true) × SpellsEntry (first_record file) (entry r)
+SaysFirst file (Some r) = (begins_kept file ≡ true) × SpellsRecord (first_record file) (entry r)
 
 -- A file's first slot counts, and its record spells nothing.
 pub record IsBadFirst (file : List ℕ) : Type 0 where
   pub counts : begins_kept file ≡ true
-  pub none : (e : Entry) → SpellsEntry (first_record file) e → ⊥
+  pub none : (e : PlainRecord) → SpellsRecord (first_record file) e → ⊥

@@ -1,8 +1,8 @@
 //! An agent's journal.
 ghost use Rattle.std.specs.Prelude.{◌≡◌, ℕ, ◌<◌, ◌≤◌, ◌+◌, ◌*◌, ◌++◌, ◌∷◌, [], ◌↔◌, ◌⊎◌, false, true, All, length, take, List, IsTrue, IfOk, IfErr, OnOk, OnErr};
 ghost use Rattle.nego_io.specs.Disks.{LeavesOnly, AreCallsOn, HasContent, overwritten};
-ghost use Rattle.agent_msg.specs.Records.{entry, entries, IsTidy};
-ghost use Rattle.agent_msg.specs.Bytes.{EntryFits, entry_bytes};
+ghost use Rattle.agent_msg.specs.Records.{PlainRecord, entry, entries, IsTidy};
+ghost use Rattle.agent_msg.specs.Bytes.{RecordFits, entry_bytes};
 ghost use Rattle.agent_journal.specs.Slots.{kept, StandsFor};
 ghost use Rattle.agent_journal.specs.Journal.{IsSettled, IsReady, KeepsSome, KeepsOrAdds, BeginsWith, LoadFails, AppendFails, after_append};
 
@@ -72,7 +72,7 @@ impl Journal {
         r: &Record,
     ) -> Result<(), JournalFault>
         requires disk { i < (D.told disks.old).disks }
-        requires spelled { EntryFits (entry r.now) }
+        requires spelled { RecordFits (entry r.now) }
         requires ready { IsReady self.old (D.told disks.old) i }
         ensures must_reload { (result ≡ Err JournalFault.MustReload) ↔ (self.old.failed ≡ true) }
         ensures full { (result ≡ Err JournalFault.Full) ↔ ((self.old.failed ≡ false) × (self.old.count ≡ 10000)) }
@@ -84,7 +84,7 @@ impl Journal {
         ensures added { OnOk result (IsTrue (D.told disks.new).telling → kept ((D.told disks.new).content i) ≡ kept ((D.told disks.old).content i) ++ entry_bytes (entry r.now) ∷ []) }
         ensures stayed { OnOk result ((D.told disks.new).faults i ≡ (D.told disks.old).faults i) }
         ensures images { self.old.failed ≡ false → LeavesOnly (KeepsOrAdds (kept ((D.told disks.old).content i)) (entry r.now)) i (D.told disks.old) (D.told disks.new) }
-        ensures grows { (records : List (List ℕ)) (from : ℕ) → BeginsWith records from i (D.told disks.old) → BeginsWith records from i (D.told disks.new) }
+        ensures grows { (journal : List PlainRecord) (from : ℕ) → BeginsWith journal from i (D.told disks.old) → BeginsWith journal from i (D.told disks.new) }
         ensures calls { AreCallsOn i (D.told disks.old) (D.told disks.new) }
     {
         if self.failed {

@@ -3,7 +3,7 @@ ghost use Rattle.std.specs.Prelude.{◌≡◌, ℕ, ◌<◌, ◌≤◌, ◌+◌,
 ghost use Rattle.nego_io.specs.Outside.{HasCause};
 ghost use Rattle.nego_io.specs.Disks.{LeavesOnly, Follows, AreCallsOn, HasContent, IsRead, IsSynced, overwritten, Torn, Ragged};
 ghost use Rattle.agent_msg.specs.Records.{entry, entries, IsTidy};
-ghost use Rattle.agent_msg.specs.Bytes.{EntryFits, entry_bytes};
+ghost use Rattle.agent_msg.specs.Bytes.{RecordFits, entry_bytes};
 ghost use Rattle.agent_journal.specs.Slots.{kept, StandsFor, Closes, SaysFirst};
 ghost use Rattle.agent_journal.specs.Journal.{IsSettled, KeepsAll, KeepsOrAdds, LoadFails, SlotFails};
 

@@ -1,7 +1,7 @@
 //! A journal that is stopped at each call of its disk.
 ghost use Rattle.std.specs.Prelude.{◌≡◌, ◌<◌, ◌≤◌, length, IfOk};
 ghost use Rattle.agent_msg.specs.Records.{entry};
-ghost use Rattle.agent_msg.specs.Bytes.{EntryFits};
+ghost use Rattle.agent_msg.specs.Bytes.{RecordFits};
 
 use crate::Journal;
 use agent_msg::Record;
@@ -16,7 +16,7 @@ const CALLS: u64 = 18;
 /// A move whose value after is the number.
 fn moved(after: u16) -> Record
     requires { after < 64 }
-    ensures { EntryFits (entry result) }
+    ensures { RecordFits (entry result) }
 {
     Record::Move {
         atom: AtomId(0),

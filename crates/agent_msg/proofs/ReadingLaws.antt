@@ -6,8 +6,8 @@ use Rattle.std.proofs.lemmas.List.Elements.{All-nil, All-cons, All-head, All-tai
 use Rattle.std.proofs.lemmas.Option.{same_Some}
 use Rattle.nego_base.specs.Members.{is_in, with_member, RisesFrom, IsRisingBelow}
 use Rattle.nego_base.proofs.Members.{is_in-with, with-last, length-below}
-use Rattle.agent_msg.specs.Records.{Share, Entry, Moved, Decided, share, ZeroElsewhere}
-use Rattle.agent_msg.specs.Bytes.{low_byte, share_bytes, tail_bytes, ShareFits, SharesFit, SpellsEntry}
+use Rattle.agent_msg.specs.Records.{Share, PlainRecord, Moved, Decided, share, ZeroElsewhere}
+use Rattle.agent_msg.specs.Bytes.{low_byte, share_bytes, tail_bytes, ShareFits, SharesFit, SpellsRecord}
 use Rattle.agent_msg.specs.Shares.{shares_of, with_share}
 use Rattle.agent_msg.specs.declared.shares.Shares.{Shares}
 use Rattle.agent_msg.proofs.ShareLaws.{IsReading, All-back, agents-shares}
@@ -133,18 +133,18 @@ counted count rest shares fit e =
     length-shares (x ∷ xs) = length-append (share_bytes x) (flat_map share_bytes xs) ∙ (let more = length-shares xs in omega (arith, more))
 
 -- the first bytes of a decision
-pub decision-read : (bytes : List ℕ) (atom outcome : ℕ) (shares : List Share) → SpellsEntry bytes (Decided atom outcome shares) →
+pub decision-read : (bytes : List ℕ) (atom outcome : ℕ) (shares : List Share) → SpellsRecord bytes (Decided atom outcome shares) →
     (get_or bytes 0 0 ≡ 2) × (256 * get_or bytes 1 0 + get_or bytes 2 0 ≡ atom) × (256 * get_or bytes 3 0 + get_or bytes 4 0 ≡ outcome) × (get_or bytes 5 0 ∷ drop 6 bytes ≡ tail_bytes shares)
 decision-read bytes atom outcome shares spells =
     rw spells.same (refl, omega (arith, spells.fits.atom_fits), omega (arith, spells.fits.outcome_fits), refl)
 
-pub move-read : (bytes : List ℕ) (atom outcome after : ℕ) → SpellsEntry bytes (Moved atom outcome after) → get_or bytes 0 0 ≡ 1
+pub move-read : (bytes : List ℕ) (atom outcome after : ℕ) → SpellsRecord bytes (Moved atom outcome after) → get_or bytes 0 0 ≡ 1
 move-read bytes atom outcome after spells = rw spells.same refl
 
 -- a decision that was read is the entry that the bytes spell
 pub decision-is : (bytes : List ℕ) (a o : ℕ) (ss : List Share) → get_or bytes 0 0 ≢ 1 → a ≡ 256 * get_or bytes 1 0 + get_or bytes 2 0 → o ≡ 256 * get_or bytes 3 0 + get_or bytes 4 0 →
     ((shares : List Share) → SharesFit shares → get_or bytes 5 0 ∷ drop 6 bytes ≡ tail_bytes shares → ◌≡◌ {A = Option (List Share)} (Some ss) (Some shares)) →
-    (e : Entry) → SpellsEntry bytes e → ◌≡◌ {A = Option Entry} (Some (Decided a o ss)) (Some e)
+    (e : PlainRecord) → SpellsRecord bytes e → ◌≡◌ {A = Option PlainRecord} (Some (Decided a o ss)) (Some e)
 decision-is bytes a o ss kind is_a is_o found (Moved atom outcome after) spells = absurd (kind (move-read bytes atom outcome after spells))
 decision-is bytes a o ss kind is_a is_o found (Decided atom outcome shares) spells =
     let read = decision-read bytes atom outcome shares spells in

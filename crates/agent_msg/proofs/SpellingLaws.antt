@@ -2,8 +2,8 @@
 use Rattle.std.proofs.Common.{◌≡◌, ℕ, ◌+◌, ◌*◌, ◌<◌, List, [], ◌∷◌, map, drop, flat_map, refl, sym, ◌∙◌, ap, arith, All, get_or}
 use Rattle.std.proofs.lemmas.List.Elements.{All-head, All-tail}
 use Rattle.agent_msg.specs.Messages.{Message, ReadyOf, DecideOf, ReadyMessage, DecideMessage}
-use Rattle.agent_msg.specs.Records.{Share, Entry, Moved, Decided}
-use Rattle.agent_msg.specs.Bytes.{share_bytes, ShareFits, SpellsEntry, SpellsMessage}
+use Rattle.agent_msg.specs.Records.{Share, PlainRecord, Moved, Decided}
+use Rattle.agent_msg.specs.Bytes.{share_bytes, ShareFits, SpellsRecord, SpellsMessage}
 use Rattle.agent_msg.proofs.ReadingLaws.{share-read, counted, decision-read, move-read}
 
 -- shares with the same numbers are the same
@@ -30,13 +30,13 @@ shares-once rest (x ∷ xs) (y ∷ ys) fit small fit_ys small_ys is is_ys =
     ap (λ (s : Share). s ∷ xs) first ∙ ap (λ (l : List Share). y ∷ l) more
 
 -- the numbers of a move
-move-numbers : (bytes : List ℕ) (atom outcome after : ℕ) → SpellsEntry bytes (Moved atom outcome after) →
+move-numbers : (bytes : List ℕ) (atom outcome after : ℕ) → SpellsRecord bytes (Moved atom outcome after) →
     (256 * get_or bytes 1 0 + get_or bytes 2 0 ≡ atom) × (256 * get_or bytes 3 0 + get_or bytes 4 0 ≡ outcome) × (get_or bytes 5 0 ≡ after)
 move-numbers bytes atom outcome after spells =
     rw spells.same (omega (arith, spells.fits.atom_fits), omega (arith, spells.fits.outcome_fits), omega (arith, spells.fits.after_fits))
 
 -- bytes spell one record at most
-pub record-once : (bytes : List ℕ) (e other : Entry) → SpellsEntry bytes e → SpellsEntry bytes other → e ≡ other
+pub record-once : (bytes : List ℕ) (e other : PlainRecord) → SpellsRecord bytes e → SpellsRecord bytes other → e ≡ other
 record-once bytes (Moved atom outcome after) (Moved atom2 outcome2 after2) spells spells2 =
     let one = move-numbers bytes atom outcome after spells in
     let two = move-numbers bytes atom2 outcome2 after2 spells2 in

@@ -2,7 +2,7 @@
 use Rattle.std.specs.Prelude.{◌≡◌, ◌≢◌, ℕ, ◌-◌, ◌*◌, ◌/◌, ◌%◌, ◌<◌, List, [], ◌∷◌, ◌++◌, length, map, replicate, flat_map, All}
 use Rattle.nego_base.specs.Members.{IsRisingBelow}
 use Rattle.agent_msg.specs.Messages.{Message, ReadyOf, DecideOf, ReadyMessage, DecideMessage}
-use Rattle.agent_msg.specs.Records.{Entry, Moved, Decided, Share}
+use Rattle.agent_msg.specs.Records.{PlainRecord, Moved, Decided, Share}
 
 -- the low byte of a number, and its low two bytes
 abbrev pub low_byte : ℕ → ℕ
@@ -54,7 +54,7 @@ abbrev pub tail_bytes : List Share → List ℕ
 tail_bytes shares = low_byte (length shares) ∷ (flat_map share_bytes shares ++ replicate (121 - 4 * length shares) 0)
 
 -- the 127 bytes of a record
-abbrev pub entry_bytes : Entry → List ℕ
+abbrev pub entry_bytes : PlainRecord → List ℕ
 entry_bytes (Moved atom outcome after) = 1 ∷ (two_bytes atom ++ (two_bytes outcome ++ low_byte after ∷ replicate 121 0))
 entry_bytes (Decided atom outcome shares) =
     2 ∷ (two_bytes atom ++ (two_bytes outcome ++ tail_bytes shares))
@@ -82,11 +82,11 @@ pub record DecisionFits (atom outcome : ℕ) (shares : List Share) : Type 0 wher
   pub some : shares ≢ []
   pub shares_fit : SharesFit shares
 
-abbrev pub EntryFits : Entry → Type 0
-EntryFits (Moved atom outcome after) = MoveFits atom outcome after
-EntryFits (Decided atom outcome shares) = DecisionFits atom outcome shares
+abbrev pub RecordFits : PlainRecord → Type 0
+RecordFits (Moved atom outcome after) = MoveFits atom outcome after
+RecordFits (Decided atom outcome shares) = DecisionFits atom outcome shares
 
 -- The bytes spell the record.
-pub record SpellsEntry (bytes : List ℕ) (e : Entry) : Type 0 where
-  pub fits : EntryFits e
+pub record SpellsRecord (bytes : List ℕ) (e : PlainRecord) : Type 0 where
+  pub fits : RecordFits e
   pub same : bytes ≡ entry_bytes e

@@ -5,7 +5,7 @@ use Rattle.agent_msg.specs.declared.msg.Decide.{Decide}
 use Rattle.agent_msg.specs.declared.msg.Msg.{Msg}
 use Rattle.agent_msg.specs.declared.msg.Msg.TheVariants as told
 
--- an agent tells the leader of its atom how many entries it has, and its value
+-- an agent tells the leader of its atom how many records it has, and its value
 pub record ReadyMessage : Type 0 where
   pub from : ℕ
   pub to : ℕ

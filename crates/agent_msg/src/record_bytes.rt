@@ -1,7 +1,7 @@
 //! Records as bytes.
 ghost use Rattle.std.specs.Prelude.{◌≡◌, ◌↔◌, ◌∷◌, ◌++◌, IsTrue, IfSome, Some, option_map, replicate};
-ghost use Rattle.agent_msg.specs.Records.{Entry, entry, IsTidy};
-ghost use Rattle.agent_msg.specs.Bytes.{low_byte, two_bytes, entry_bytes, EntryFits, SpellsEntry};
+ghost use Rattle.agent_msg.specs.Records.{PlainRecord, entry, IsTidy};
+ghost use Rattle.agent_msg.specs.Bytes.{low_byte, two_bytes, entry_bytes, RecordFits, SpellsRecord};
 
 use crate::Record;
 use crate::bytes::{high, low, number};
@@ -53,7 +53,7 @@ fn headed(kind: u8, atom: AtomId, outcome: OutcomeId, number: u32) -> [u8; 127]
 
 /// The record that the bytes spell. None exactly where they spell none.
 pub fn read_record(bytes: &[u8]) -> Option<Record>
-    ensures entry { (e : Entry) → (option_map entry result ≡ Some e) ↔ SpellsEntry bytes.now e }
+    ensures entry { (e : PlainRecord) → (option_map entry result ≡ Some e) ↔ SpellsRecord bytes.now e }
     ensures tidy { IfSome result IsTidy }
 {
     let r = guess(bytes)?;
@@ -66,7 +66,7 @@ pub fn read_record(bytes: &[u8]) -> Option<Record>
 
 /// The only record that the bytes may spell.
 fn guess(bytes: &[u8]) -> Option<Record>
-    ensures entry { (e : Entry) → SpellsEntry bytes.now e → option_map entry result ≡ Some e }
+    ensures entry { (e : PlainRecord) → SpellsRecord bytes.now e → option_map entry result ≡ Some e }
     ensures tidy { IfSome result IsTidy }
 {
     let [
@@ -106,7 +106,7 @@ fn guess(bytes: &[u8]) -> Option<Record>
 
 /// Whether the numbers of the record are within their bounds.
 fn fits(r: &Record) -> bool
-    ensures { IsTrue result ↔ EntryFits (entry r.now) }
+    ensures { IsTrue result ↔ RecordFits (entry r.now) }
 {
     match r {
         Record::Move {

@@ -25,6 +25,17 @@ const DECIDE: Msg = Msg::Decide(Decide {
 
 const DECIDE_BYTES: [u8; 16] = [0x4e, 0x44, 0, 1, 0, 0, 0, 1, 0, 1, 1, 0, 0, 0, 0, 0];
 
+/// What an agent with 10,000 records would tell, whose visit is past its bound, and its message as bytes.
+const FULL: Msg = Msg::Ready(Ready {
+    from: AgentId(1),
+    to: AgentId(0),
+    atom: AtomId(0),
+    visit: 10_000,
+    value: 0,
+});
+
+const FULL_BYTES: [u8; 16] = [0x4e, 0x52, 1, 0, 0, 0, 0x27, 0x10, 0, 0, 0, 0, 0, 0, 0, 0];
+
 /// The first bytes of a decision of two parties, of a move and of a decision of one party. Zeros follow.
 static RECORDS: [&[u8]; 3] = [
     &[2, 0, 0, 0, 1, 2, 0, 0, 1, 1, 1, 0, 1, 1],
@@ -38,6 +49,8 @@ fn vectors_are_written_and_read(rt: HostRuntime) -> Result<(), Fail> {
     assert!(rt; read_msg(&READY_BYTES) == Some(READY));
     assert!(rt; write_msg(&DECIDE) == DECIDE_BYTES);
     assert!(rt; read_msg(&DECIDE_BYTES) == Some(DECIDE));
+    assert!(rt; write_msg(&FULL) == FULL_BYTES);
+    assert!(rt; read_msg(&FULL_BYTES) == None);
     for (i, (record, front)) in records().iter().zip(&RECORDS).enumerate() {
         let bytes = padded(front);
         assert!(rt; write_record(record) == bytes, "record {i}");

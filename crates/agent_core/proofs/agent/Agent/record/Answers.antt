@@ -3,7 +3,7 @@ use Rattle.std.proofs.lemmas.Option.{slice_get_within}
 use Rattle.std.proofs.lemmas.Grind.{common_steps}
 use Rattle.std.specs.List.{All}
 use Rattle.nego_base.proofs.ListLaws.{All-at}
-use Rattle.agent_msg.specs.Records.{Entry, Moved, Decided, entry}
+use Rattle.agent_msg.specs.Records.{PlainRecord, Moved, Decided, entry}
 use Rattle.nego_model.specs.Diagram.{PlainDiagram, nexts_of}
 use Rattle.nego_model.proofs.diagrams.Negotiations.{outcome_at}
 use Rattle.agent_core.specs.Agents.{PlainAgent, record_outcome, IsStep, IsValid}
@@ -11,7 +11,7 @@ use Rattle.agent_core.proofs.Valid.{valid-recorded}
 use Rattle.agent_core.proofs.agent.Agent.record.Goals as goal
 
 -- the outcome of a step is one of the diagram's
-outcome-below : (diagram : PlainDiagram) (agent : PlainAgent) (r : Entry) → IsStep diagram agent r → record_outcome r < length diagram.outcomes
+outcome-below : (diagram : PlainDiagram) (agent : PlainAgent) (r : PlainRecord) → IsStep diagram agent r → record_outcome r < length diagram.outcomes
 outcome-below diagram agent (Moved n o after) s = let at = outcome_at diagram n o s.outcome in slice_get_within diagram.outcomes o at.outcome at.at
 outcome-below diagram agent (Decided n o shares) s = let at = outcome_at diagram n o s.outcome in slice_get_within diagram.outcomes o at.outcome at.at
 
