@@ -16,7 +16,7 @@ use Rattle.nego_model.proofs.occurrence.Histories.{joint_after-below, history_le
 use Rattle.nego_model.specs.Negotiation.{IsDeterministic}
 use Rattle.nego_model.specs.Diagram.{PlainDiagram, IsDiagram, negotiation_of, relation_of, parties_of}
 use Rattle.agent_msg.specs.Messages.{Message, DecideOf, ready_message, decide_message}
-use Rattle.agent_msg.specs.Records.{Entry, Moved, Decided, entry}
+use Rattle.agent_msg.specs.Records.{PlainRecord, Moved, Decided, entry}
 use Rattle.agent_core.specs.declared.choice.Choice.{Choice}
 use Rattle.agent_core.specs.Agents.{PlainAgent, IsStep, IsValid, size_of, shares_in, beginning}
 use Rattle.agent_core.specs.Roomy.{RoomyAgent}
@@ -49,7 +49,7 @@ taking-sends agent m Old = refl
 taking-sends agent m Stranger = refl
 
 -- an agent that decides does so at its atom, and is after just that
-pub deciding-is : (diagram : PlainDiagram) (agent : PlainAgent) (choice : Choice) (r : Entry) → decided diagram agent choice ≡ Ok r →
+pub deciding-is : (diagram : PlainDiagram) (agent : PlainAgent) (choice : Choice) (r : PlainRecord) → decided diagram agent choice ≡ Ok r →
     (n : ℕ) × (decides diagram agent choice ≡ Ok (deciding diagram agent n choice)) × (r ≡ decision_by diagram agent n choice) × (after_decision diagram agent choice ≡ after_act diagram agent (deciding diagram agent n choice))
 deciding-is diagram agent choice r h =
     let b = bind_ok (atom_to_decide diagram agent) (λ n. Ok (decision_by diagram agent n choice)) r h in
@@ -87,7 +87,7 @@ pub refused-given : (diagram : PlainDiagram) (now : PlainWorld) (i : ℕ) (endin
 refused-given diagram now i ending h = ap (λ o. option_map_or (λ m. Ok (deed_by (addressee m) ending (given_act diagram now m))) o (Err (NoMessage i)) >>= λ x. Ok (after_deed diagram now x)) h
 
 -- the values after a step are below their sizes
-pub step-afters : (diagram : PlainDiagram) (agent : PlainAgent) (r : Entry) → IsStep diagram agent r → All (λ s. s.after < size_of diagram s.agent) (shares_in r)
+pub step-afters : (diagram : PlainDiagram) (agent : PlainAgent) (r : PlainRecord) → IsStep diagram agent r → All (λ s. s.after < size_of diagram s.agent) (shares_in r)
 step-afters diagram agent (Moved n o after) h = All-nil (λ s. s.after < size_of diagram s.agent)
 step-afters diagram agent (Decided n o shares) h = h.below
 
@@ -97,7 +97,7 @@ parties-decided diagram agent n e [] = refl
 parties-decided diagram agent n e (p ∷ parties) = ap (λ ps. p ∷ ps) (parties-decided diagram agent n e parties)
 
 -- what a leader sends of its decision
-pub sends-decided : (diagram : PlainDiagram) (agent : PlainAgent) (a n : ℕ) (choice : Choice) (r : Entry) → agent.id ≡ a → r ≡ decision_by diagram agent n choice → decides_of a (map (λ s. s.agent) (shares_in r)) r ≡ (deciding diagram agent n choice).sends
+pub sends-decided : (diagram : PlainDiagram) (agent : PlainAgent) (a n : ℕ) (choice : Choice) (r : PlainRecord) → agent.id ≡ a → r ≡ decision_by diagram agent n choice → decides_of a (map (λ s. s.agent) (shares_in r)) r ≡ (deciding diagram agent n choice).sends
 sends-decided diagram agent a n choice r id same =
     let decision = decision_by diagram agent n choice in
     let d = known_joint diagram agent n in
@@ -126,7 +126,7 @@ lost-given diagram now next i a m stepped there same h =
     (ap (λ o. option_map_or (λ x. Ok (deed_by (addressee x) StopsBefore (given_act diagram now x))) o (Err (NoMessage i))) there ∙ ap {B = Result Deed Refusal} (λ b. Ok (record { agent = b; act = stopping })) (sym same)) refl refl h
 
 -- who stops where it decides, and no record is kept
-pub lost-decision : (diagram : PlainDiagram) (now next : PlainWorld) (a : ℕ) (choice : Choice) (r : Entry) (stepped : Stepped) → decided diagram (agent_of diagram now a) choice ≡ Ok r → Happened diagram now (Stop a) stepped next → Happened diagram now (Decide a choice StopsBefore) stepped next
+pub lost-decision : (diagram : PlainDiagram) (now next : PlainWorld) (a : ℕ) (choice : Choice) (r : PlainRecord) (stepped : Stepped) → decided diagram (agent_of diagram now a) choice ≡ Ok r → Happened diagram now (Stop a) stepped next → Happened diagram now (Decide a choice StopsBefore) stepped next
 lost-decision diagram now next a choice r stepped h =
     same-deed diagram now next (Stop a) (Decide a choice StopsBefore) stepped (ap (result_map_both (deed_by a StopsBefore) NoDecision) (deciding-is diagram (agent_of diagram now a) choice r h).1) refl refl
 

@@ -39,7 +39,7 @@ share_in-other diagram before entry p (q ∷ parties) h = go (q == p) refl (shar
     go false e rest = rest (sym (ap (λ b. b || is_in p parties) e) ∙ h)
 
 -- the entry behind others of which an agent made a record
-pub record OwnEntry (diagram : PlainDiagram) (l : ℕ) (before history : List Entry) (r : journal.Entry) : Type 0 where
+pub record OwnEntry (diagram : PlainDiagram) (l : ℕ) (before history : List Entry) (r : journal.PlainRecord) : Type 0 where
   pub front : List Entry
   pub entry : Entry
   pub rest : List Entry
@@ -47,7 +47,7 @@ pub record OwnEntry (diagram : PlainDiagram) (l : ℕ) (before history : List En
   pub is : r ≡ record_of diagram (before ++ front) entry l
 
 -- each record has its entry
-pub own_entry : (diagram : PlainDiagram) (l : ℕ) (before history : List Entry) (r : journal.Entry) → Contains (records_behind diagram l before history) r → OwnEntry diagram l before history r
+pub own_entry : (diagram : PlainDiagram) (l : ℕ) (before history : List Entry) (r : journal.PlainRecord) → Contains (records_behind diagram l before history) r → OwnEntry diagram l before history r
 own_entry diagram l before [] r c = absurd (omega (arith, c.1))
 own_entry diagram l before (e ∷ es) r c = go (own_entry diagram l (before ++ e ∷ []) es r) (is_in l (parties_of diagram e.step.0)) c
   where

@@ -50,7 +50,7 @@ Contains-parts (y ∷ xs) ys x (zero, lt, e) = inl (0, omega arith, e)
 Contains-parts (y ∷ xs) ys x (suc k, lt, e) = ⊎_elim (λ c. inl (Contains-tail y xs x c)) (λ c. inr c) (Contains-parts xs ys x (k, omega (arith, lt), e))
 
 -- what a leader sends of a decision tells it
-pub sends-told : (leader : ℕ) (parties : List ℕ) (decision : journal.Entry) (decide : DecideMessage) → Contains (decides_of leader parties decision) (DecideOf decide) → (to : ℕ) × (decide_of leader to decision ≡ Some decide)
+pub sends-told : (leader : ℕ) (parties : List ℕ) (decision : journal.PlainRecord) (decide : DecideMessage) → Contains (decides_of leader parties decision) (DecideOf decide) → (to : ℕ) × (decide_of leader to decision ≡ Some decide)
 sends-told leader [] decision decide c = none-sent (DecideOf decide) c
 sends-told leader (p ∷ parties) decision decide c =
     ⊎_elim (λ k. one (decide_of leader p decision) refl k) (λ k. sends-told leader parties decision decide k)
@@ -65,7 +65,7 @@ sends-told leader (p ∷ parties) decision decide c =
     one (Some d) e (suc k, lt, h) = absurd (omega (arith, lt))
 
 -- and is no Ready
-pub sends-no_ready : {A : Type 0} (leader : ℕ) (parties : List ℕ) (decision : journal.Entry) (ready : ReadyMessage) → Contains (decides_of leader parties decision) (ReadyOf ready) → A
+pub sends-no_ready : {A : Type 0} (leader : ℕ) (parties : List ℕ) (decision : journal.PlainRecord) (ready : ReadyMessage) → Contains (decides_of leader parties decision) (ReadyOf ready) → A
 sends-no_ready leader [] decision ready c = none-sent (ReadyOf ready) c
 sends-no_ready {A} leader (p ∷ parties) decision ready c =
     ⊎_elim (λ k. one (decide_of leader p decision) k) (λ k. sends-no_ready leader parties decision ready k)
@@ -101,7 +101,7 @@ module _ (diagram : PlainDiagram) (ok : IsDiagram diagram) (single : IsDetermini
   abbrev chosen_outcome : ℕ
   chosen_outcome = outcome diagram ok single world was l n known may choice
 
-  abbrev decision : journal.Entry
+  abbrev decision : journal.PlainRecord
   decision = decision_by diagram agent n choice
 
   abbrev entry : Entry

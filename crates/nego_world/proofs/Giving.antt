@@ -23,7 +23,7 @@ later-none v u differ past =
     false_from (nat_le v u) (λ h. ⊎_elim (λ lt. false≢true (sym past ∙ lt-ltb v u lt)) (λ ge. let le : v ≤ u = leb-true v u h in unequal u v differ (omega (arith, le, ge))) (cases_lt v u))
 
 -- no decision with the agent is on this visit or a greater one, where none is on it and none on a greater one
-none-later : (p v : ℕ) (records : List journal.Entry) → find (has_visit p (λ u. u == v)) records ≡ None → list_any (has_visit p (nat_lt v)) records ≡ false → list_any (has_visit p (nat_le v)) records ≡ false
+none-later : (p v : ℕ) (records : List journal.PlainRecord) → find (has_visit p (λ u. u == v)) records ≡ None → list_any (has_visit p (nat_lt v)) records ≡ false → list_any (has_visit p (nat_le v)) records ≡ false
 none-later p v [] h k = refl
 none-later p v (r ∷ rs) h k =
     ⊎_elim (λ x. absurd (none-some r (sym x.1)))
@@ -36,7 +36,7 @@ none-later p v (r ∷ rs) h k =
     one (Some s) a b = later-none v s.visit a b
 
 -- whom a Decide names
-pub decide-names : (from to : ℕ) (r : journal.Entry) (decide : DecideMessage) → decide_of from to r ≡ Some decide → (decide.from ≡ from) × (decide.to ≡ to)
+pub decide-names : (from to : ℕ) (r : journal.PlainRecord) (decide : DecideMessage) → decide_of from to r ≡ Some decide → (decide.from ≡ from) × (decide.to ≡ to)
 decide-names from to (Moved n o after) decide h = absurd (none-some decide h)
 decide-names from to (Decided n o shares) decide h =
     ⊎_elim (λ x. absurd (none-some decide x.1)) (λ x. one (share_of to shares) refl x.1) (chosen (to == from) None (option_map (told from n o) (find (λ s. s.agent == to) shares)) (Some decide) h)
@@ -66,25 +66,25 @@ kept-again d e = cc
 old-again : (d : DecideMessage) → Old ≡ Again d → ⊥
 old-again d e = cc
 
-recorded-again : (r : journal.Entry) (d : DecideMessage) → Recorded r ≡ Again d → ⊥
+recorded-again : (r : journal.PlainRecord) (d : DecideMessage) → Recorded r ≡ Again d → ⊥
 recorded-again r d e = cc
 
 same-again : (d e : DecideMessage) → Again d ≡ Again e → d ≡ e
 same-again d e h = cc
 
-kept-recorded : (r : journal.Entry) → Kept ≡ Recorded r → ⊥
+kept-recorded : (r : journal.PlainRecord) → Kept ≡ Recorded r → ⊥
 kept-recorded r e = cc
 
-stranger-recorded : (r : journal.Entry) → Stranger ≡ Recorded r → ⊥
+stranger-recorded : (r : journal.PlainRecord) → Stranger ≡ Recorded r → ⊥
 stranger-recorded r e = cc
 
-old-recorded : (r : journal.Entry) → Old ≡ Recorded r → ⊥
+old-recorded : (r : journal.PlainRecord) → Old ≡ Recorded r → ⊥
 old-recorded r e = cc
 
-again-recorded : (d : DecideMessage) (r : journal.Entry) → Again d ≡ Recorded r → ⊥
+again-recorded : (d : DecideMessage) (r : journal.PlainRecord) → Again d ≡ Recorded r → ⊥
 again-recorded d r e = cc
 
-same-recorded : (r s : journal.Entry) → Recorded r ≡ Recorded s → r ≡ s
+same-recorded : (r s : journal.PlainRecord) → Recorded r ≡ Recorded s → r ≡ s
 same-recorded r s h = cc
 
 module _ (diagram : PlainDiagram) (agent : PlainAgent) where
@@ -97,7 +97,7 @@ module _ (diagram : PlainDiagram) (agent : PlainAgent) where
       (λ a. absurd (stranger-kept a.1))
       (chosen (ready.to == agent.id) (given_ready diagram agent ready) Stranger Kept h)
     where
-      answered : (r : journal.Entry) → answered_by agent ready r ≡ Kept → ⊥
+      answered : (r : journal.PlainRecord) → answered_by agent ready r ≡ Kept → ⊥
       answered r k =
           ⊎_elim (λ x. two (decide_of agent.id ready.from r) x.1) (λ x. stranger-kept x.1) (chosen (record_atom r == ready.atom) (option_map_or Again (decide_of agent.id ready.from r) Stranger) Stranger Kept k)
         where
@@ -105,7 +105,7 @@ module _ (diagram : PlainDiagram) (agent : PlainAgent) where
           two None k = stranger-kept k
           two (Some d) k = again-kept d k
 
-      one : (o : Option journal.Entry) → find (has_visit ready.from (λ v. v == ready.visit)) agent.records ≡ o → option_map_or (answered_by agent ready) o (cond (is_passed agent ready) Stranger Kept) ≡ Kept →
+      one : (o : Option journal.PlainRecord) → find (has_visit ready.from (λ v. v == ready.visit)) agent.records ≡ o → option_map_or (answered_by agent ready) o (cond (is_passed agent ready) Stranger Kept) ≡ Kept →
           list_any (has_visit ready.from (nat_le ready.visit)) agent.records ≡ false
       one (Some r) e k = absurd (answered r k)
       one None e k =
@@ -113,7 +113,7 @@ module _ (diagram : PlainDiagram) (agent : PlainAgent) where
           (chosen (is_passed agent ready) Stranger Kept Kept k)
 
   -- a Decide that is told again is one that the agent decided
-  pub again-decided : (m : Message) (decide : DecideMessage) → given diagram agent m ≡ Again decide → (r : journal.Entry) × (to : ℕ) × Contains agent.records r × (decide_of agent.id to r ≡ Some decide)
+  pub again-decided : (m : Message) (decide : DecideMessage) → given diagram agent m ≡ Again decide → (r : journal.PlainRecord) × (to : ℕ) × Contains agent.records r × (decide_of agent.id to r ≡ Some decide)
   again-decided (DecideOf d) decide h =
       ⊎_elim
       (λ a. ⊎_elim (λ b. absurd (old-again decide b.1))
@@ -132,15 +132,15 @@ module _ (diagram : PlainDiagram) (agent : PlainAgent) where
       two None k = absurd (stranger-again decide k)
       two (Some d) k = ap (λ x. Some x) (same-again d decide k)
 
-      one : (o : Option journal.Entry) → find (has_visit ready.from (λ v. v == ready.visit)) agent.records ≡ o → option_map_or (answered_by agent ready) o (cond (is_passed agent ready) Stranger Kept) ≡ Again decide →
-          (r : journal.Entry) × (to : ℕ) × Contains agent.records r × (decide_of agent.id to r ≡ Some decide)
+      one : (o : Option journal.PlainRecord) → find (has_visit ready.from (λ v. v == ready.visit)) agent.records ≡ o → option_map_or (answered_by agent ready) o (cond (is_passed agent ready) Stranger Kept) ≡ Again decide →
+          (r : journal.PlainRecord) × (to : ℕ) × Contains agent.records r × (decide_of agent.id to r ≡ Some decide)
       one None e k = ⊎_elim (λ x. absurd (stranger-again decide x.1)) (λ x. absurd (kept-again decide x.1)) (chosen (is_passed agent ready) Stranger Kept (Again decide) k)
       one (Some r) e k =
           ⊎_elim (λ x. (r, ready.from, (found (has_visit ready.from (λ v. v == ready.visit)) agent.records r e).0, two (decide_of agent.id ready.from r) x.1)) (λ x. absurd (stranger-again decide x.1))
           (chosen (record_atom r == ready.atom) (option_map_or Again (decide_of agent.id ready.from r) Stranger) Stranger (Again decide) k)
 
   -- what is recorded of a message is the move of a Decide that the agent waits for
-  pub recorded-awaited : (m : Message) (r : journal.Entry) → given diagram agent m ≡ Recorded r → (decide : DecideMessage) × (m ≡ DecideOf decide) × (r ≡ Moved decide.atom decide.outcome decide.after) × (is_awaited diagram agent decide ≡ true)
+  pub recorded-awaited : (m : Message) (r : journal.PlainRecord) → given diagram agent m ≡ Recorded r → (decide : DecideMessage) × (m ≡ DecideOf decide) × (r ≡ Moved decide.atom decide.outcome decide.after) × (is_awaited diagram agent decide ≡ true)
   recorded-awaited (DecideOf d) r h =
       ⊎_elim
       (λ a. ⊎_elim (λ b. absurd (old-recorded r b.1))
@@ -159,7 +159,7 @@ module _ (diagram : PlainDiagram) (agent : PlainAgent) where
       two None k = stranger-recorded r k
       two (Some d) k = again-recorded d r k
 
-      one : (o : Option journal.Entry) → option_map_or (answered_by agent ready) o (cond (is_passed agent ready) Stranger Kept) ≡ Recorded r → ⊥
+      one : (o : Option journal.PlainRecord) → option_map_or (answered_by agent ready) o (cond (is_passed agent ready) Stranger Kept) ≡ Recorded r → ⊥
       one None k = ⊎_elim (λ x. stranger-recorded r x.1) (λ x. kept-recorded r x.1) (chosen (is_passed agent ready) Stranger Kept (Recorded r) k)
       one (Some s) k =
           ⊎_elim (λ x. two (decide_of agent.id ready.from s) x.1) (λ x. stranger-recorded r x.1)

@@ -1,5 +1,5 @@
 -- Whatever happens, a consistent world stays so.
-use Rattle.std.proofs.Common.{◌≡◌, ℕ, zero, suc, List, [], ◌∷◌, slice_get, Option, Some, None, Result, Ok, Err, IfOk, refl, sym, subst, arith}
+use Rattle.std.proofs.Common.{◌≡◌, ℕ, zero, suc, List, [], ◌∷◌, slice_get, Option, Some, None, Result, Ok, Err, IfOk, refl, sym, ap, subst, arith}
 use Rattle.std.proofs.lemmas.Option.{same_Some, none-some}
 use Rattle.std.proofs.lemmas.List.Elements.{All-head, All-tail}
 use Rattle.std.specs.List.{Contains}
@@ -69,3 +69,13 @@ module _ (diagram : PlainDiagram) (ok : IsDiagram diagram) (single : IsDetermini
           ((next : PlainWorld) → IsConsistent diagram next → plays diagram next rest ≡ Ok last → IsConsistent diagram last) → IsConsistent diagram last
       go (Err why) e k later = absurd (ok-err last (item.0, why) (sym k))
       go (Ok next) e k later = later next (step-consistent world next was item.1 (All-head (λ x. NamesAgent diagram x.1) item rest known) e) k
+
+-- events leave the start as it is
+pub plays-start : (diagram : PlainDiagram) (lines : List (ℕ × PlainEvent)) (world last : PlainWorld) → plays diagram world lines ≡ Ok last → last.start ≡ world.start
+plays-start diagram [] world last h = ap (λ (w : PlainWorld). w.start) (sym (same_Ok world last h))
+plays-start diagram (item ∷ rest) world last h = go (deed_of diagram world item.1) h (λ next k. plays-start diagram rest next last k)
+  where
+    go : (r : Result Deed Refusal) → (result_map_both (λ next. next) (λ why. (item.0, why)) (r >>= λ deed. Ok (after_deed diagram world deed)) >>= λ next. plays diagram next rest) ≡ Ok last →
+        ((next : PlainWorld) → plays diagram next rest ≡ Ok last → last.start ≡ next.start) → last.start ≡ world.start
+    go (Err why) k later = absurd (ok-err last (item.0, why) (sym k))
+    go (Ok deed) k later = later (after_deed diagram world deed) k

@@ -10,7 +10,7 @@ use Rattle.agent_core.specs.Agreement.{visits, record_of, records_behind, journa
 
 module _ (diagram : PlainDiagram) (a : ℕ) where
   -- the record that the agent makes of an entry behind others, if it takes part
-  abbrev one_record : List Entry → Entry → List journal.Entry
+  abbrev one_record : List Entry → Entry → List journal.PlainRecord
   one_record before entry = cond (is_in a (parties_of diagram entry.step.0)) (record_of diagram before entry a ∷ []) []
 
   -- the records of entries and one more

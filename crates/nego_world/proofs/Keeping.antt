@@ -29,7 +29,7 @@ pub record IsAllowed (diagram : PlainDiagram) (world : PlainWorld) (deed : Deed)
 pub records-after : (diagram : PlainDiagram) (agent : PlainAgent) (act : Act) → (after_act diagram agent act).records ≡ agent.records ++ option_to_list act.kept
 records-after diagram agent act = go act.kept
   where
-    go : (kept : Option journal.Entry) → (option_map_or (recorded diagram agent) kept agent).records ≡ agent.records ++ option_to_list kept
+    go : (kept : Option journal.PlainRecord) → (option_map_or (recorded diagram agent) kept agent).records ≡ agent.records ++ option_to_list kept
     go None = sym (append-nil agent.records)
     go (Some r) = refl
 
@@ -38,7 +38,7 @@ pub left-after : (diagram : PlainDiagram) (a start : ℕ) (agent : PlainAgent) (
     after_act diagram agent act ≡ record (left_by diagram a start (after_act diagram agent act).records) { held = act.held }
 left-after diagram a start agent act e = go act.kept
   where
-    go : (kept : Option journal.Entry) →
+    go : (kept : Option journal.PlainRecord) →
         ◌≡◌ {A = PlainAgent} (record (option_map_or (recorded diagram agent) kept agent) { held = act.held }) (record (left_by diagram a start (option_map_or (recorded diagram agent) kept agent).records) { held = act.held })
     go None = ap {A = PlainAgent} {B = PlainAgent} (λ g. record g { held = act.held }) e
     go (Some r) =
@@ -54,11 +54,11 @@ module _ (diagram : PlainDiagram) (world : PlainWorld) (deed : Deed) (was : IsCo
   actor = agent-after diagram world deed (subst (λ count. deed.agent < count) (sym was.count) known)
 
   -- each agent's records have those before at their front
-  pub records-grow : (b : ℕ) → (tail : List journal.Entry) × ((agent_of diagram next b).records ≡ (agent_of diagram world b).records ++ tail)
+  pub records-grow : (b : ℕ) → (tail : List journal.PlainRecord) × ((agent_of diagram next b).records ≡ (agent_of diagram world b).records ++ tail)
   records-grow b =
       ⊎_elim
       (λ (same : b ≡ deed.agent).
-      let P : ℕ → Type 0 = λ c. (tail : List journal.Entry) × ((agent_of diagram next c).records ≡ (agent_of diagram world c).records ++ tail) in
+      let P : ℕ → Type 0 = λ c. (tail : List journal.PlainRecord) × ((agent_of diagram next c).records ≡ (agent_of diagram world c).records ++ tail) in
       subst P (sym same) (option_to_list deed.act.kept, ap (λ g. g.records) actor ∙ records-after diagram (agent_of diagram world deed.agent) deed.act))
       (λ other. ([], ap (λ g. g.records) (others-after diagram world deed b other) ∙ sym (append-nil (agent_of diagram world b).records)))
       (same_or_not b deed.agent)

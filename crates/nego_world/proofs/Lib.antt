@@ -17,6 +17,7 @@ pub mod Deciding
 pub mod Beginning
 pub mod Finishing
 pub mod Happening
+pub mod Refused
 pub mod Entries
 pub mod Acting
 pub mod Lines

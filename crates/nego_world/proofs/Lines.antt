@@ -1,5 +1,5 @@
 -- How a schedule goes on, line by line.
-use Rattle.std.proofs.Common.{◌≡◌, ℕ, suc, ◌+◌, ◌<◌, ◌≤◌, List, ◌∷◌, All, drop, length, map, slice_index_or, Option, None, Some, Result, Ok, Err, refl, sym, ap, subst, ◌∙◌, arith, length-append}
+use Rattle.std.proofs.Common.{◌≡◌, ℕ, suc, ◌+◌, ◌<◌, ◌≤◌, List, ◌∷◌, All, drop, length, map, slice_index_or, Option, None, Some, Ok, Err, refl, sym, ap, subst, ◌∙◌, arith, length-append}
 use Rattle.std.proofs.lemmas.List.Elements.{All-set, All-map}
 use Rattle.std.proofs.lemmas.List.{drop_more, get_or-map, length-map}
 use Rattle.std.specs.List.{range_with_len}
@@ -8,7 +8,7 @@ use Rattle.std.specs.Result.{result_map_both}
 use Rattle.nego_base.specs.Results.{◌>>=◌}
 use Rattle.nego_base.proofs.Cases.{same_Ok, bind_ok}
 use Rattle.nego_model.specs.Diagram.{PlainDiagram}
-use Rattle.agent_msg.specs.Records.{Entry}
+use Rattle.agent_msg.specs.Records.{PlainRecord}
 use Rattle.agent_core.specs.Agents.{beginning}
 use Rattle.agent_core.specs.Acts.{Act, after_act}
 use Rattle.agent_core.specs.Deciding.{value_in}
@@ -47,7 +47,7 @@ abbrev pub HasRoomFor : ℕ → PlainWorld → Type 0
 HasRoomFor more world = All (λ agent. length agent.records + more ≤ 10000) world.agents
 
 -- what is kept is at most one record
-at_most_one : (kept : Option Entry) → length (option_to_list kept) ≤ 1
+at_most_one : (kept : Option PlainRecord) → length (option_to_list kept) ≤ 1
 at_most_one None = omega arith
 at_most_one (Some r) = omega arith
 

@@ -46,7 +46,7 @@ moved-record diagram front entry a led =
     eqb_is h = Rattle.std.proofs.Common.eqb-true (leader_of diagram entry.step.0) a h
 
 -- the move of an entry completes a journal that agrees and lacks the agent's record of it
-pub completed : (diagram : PlainDiagram) (front rest : List Entry) (entry : Entry) (a : ℕ) (records : List journal.Entry) → Agrees diagram (front ++ entry ∷ rest) a records → is_in a (parties_of diagram entry.step.0) ≡ true → visits diagram a front ≡ length records →
+pub completed : (diagram : PlainDiagram) (front rest : List Entry) (entry : Entry) (a : ℕ) (records : List journal.PlainRecord) → Agrees diagram (front ++ entry ∷ rest) a records → is_in a (parties_of diagram entry.step.0) ≡ true → visits diagram a front ≡ length records →
     records ++ record_of diagram front entry a ∷ [] ≡ journal_of diagram (front ++ entry ∷ rest) a
 completed diagram front rest entry a records agrees party count =
     let here = record_of diagram front entry a in
@@ -110,7 +110,7 @@ module _ (diagram : PlainDiagram) (ok : IsDiagram diagram) (single : IsDetermini
       agent : PlainAgent
       agent = agent_of diagram world decide.to
 
-      move : journal.Entry
+      move : journal.PlainRecord
       move = Moved decide.atom decide.outcome decide.after
 
       deed : Deed
@@ -141,7 +141,7 @@ module _ (diagram : PlainDiagram) (ok : IsDiagram diagram) (single : IsDetermini
   sending-allowed a sends known told decided = quiet diagram world a (agent_of diagram world a).held sends was known (was.agents a known).room (λ p ready h. was.held a p ready known h) told decided
 
   -- recording what is recorded of a message is allowed
-  recording-allowed : (m : Message) → Contains world.sent m → addressee m < length diagram.agents → (r : journal.Entry) → given diagram (agent_of diagram world (addressee m)) m ≡ Recorded r → (held : List (Option ReadyMessage)) → length held ≡ 16 →
+  recording-allowed : (m : Message) → Contains world.sent m → addressee m < length diagram.agents → (r : journal.PlainRecord) → given diagram (agent_of diagram world (addressee m)) m ≡ Recorded r → (held : List (Option ReadyMessage)) → length held ≡ 16 →
       ((p : ℕ) (ready : ReadyMessage) → slice_index_or held p None ≡ Some ready → IsHeld diagram world (addressee m) p ready) → IsAllowed diagram world (record { agent = addressee m; act = record { kept = Some r; held = held; sends = [] } })
   recording-allowed m sent known r e held room holds = go m (recorded-awaited diagram (agent_of diagram world (addressee m)) m r e) sent known holds
     where

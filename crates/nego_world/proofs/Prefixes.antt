@@ -14,13 +14,13 @@ use Rattle.agent_core.specs.Agreement.{visits, records_behind, journal_of, Agree
 use Rattle.nego_world.proofs.Journals.{records_behind-append, length-records}
 
 -- What a journal lacks: nothing, or one move.
-pub record Lacks (diagram : PlainDiagram) (history : List Entry) (a : ℕ) (records : List journal.Entry) : Type 0 where
-  pub tail : List journal.Entry
+pub record Lacks (diagram : PlainDiagram) (history : List Entry) (a : ℕ) (records : List journal.PlainRecord) : Type 0 where
+  pub tail : List journal.PlainRecord
   pub all : records ++ tail ≡ journal_of diagram history a
   pub moves : (p : ℕ) (test : ℕ → Bool) → list_any (has_visit p test) tail ≡ false
   pub short : length tail ≤ 1
 
-pub lacks : (diagram : PlainDiagram) (history : List Entry) (a : ℕ) (records : List journal.Entry) → Agrees diagram history a records → Lacks diagram history a records
+pub lacks : (diagram : PlainDiagram) (history : List Entry) (a : ℕ) (records : List journal.PlainRecord) → Agrees diagram history a records → Lacks diagram history a records
 lacks diagram history a records h =
     ⊎_elim
     (λ same. record { tail = []; all = append-nil records ∙ same; moves = λ p test. refl; short = omega arith })
@@ -35,23 +35,23 @@ module _ (diagram : PlainDiagram) (a : ℕ) where
       ∙ (ap (λ n. take n (journal_of diagram front a ++ records_behind diagram a front rest)) (sym (length-records diagram a [] front)) ∙ take-append_seam (journal_of diagram front a) (records_behind diagram a front rest))
 
   -- and those of a journal that agrees
-  pub take-agreed : (front rest : List Entry) (records : List journal.Entry) → Agrees diagram (front ++ rest) a records → visits diagram a front ≤ length records → take (visits diagram a front) records ≡ journal_of diagram front a
+  pub take-agreed : (front rest : List Entry) (records : List journal.PlainRecord) → Agrees diagram (front ++ rest) a records → visits diagram a front ≤ length records → take (visits diagram a front) records ≡ journal_of diagram front a
   take-agreed front rest records h le =
       let l = lacks diagram (front ++ rest) a records h in
       sym (take-append-le (visits diagram a front) records l.tail le) ∙ (ap (take (visits diagram a front)) l.all ∙ take-journal front rest)
 
   -- no decision of a journal that agrees has a visit that none of the history's has
-  pub any-agreed : (history : List Entry) (records : List journal.Entry) (p : ℕ) (test : ℕ → Bool) → Agrees diagram history a records → list_any (has_visit p test) (journal_of diagram history a) ≡ list_any (has_visit p test) records
+  pub any-agreed : (history : List Entry) (records : List journal.PlainRecord) (p : ℕ) (test : ℕ → Bool) → Agrees diagram history a records → list_any (has_visit p test) (journal_of diagram history a) ≡ list_any (has_visit p test) records
   any-agreed history records p test h =
       let l = lacks diagram history a records h in
       ap (list_any (has_visit p test)) (sym l.all) ∙ (list_any-append (has_visit p test) records l.tail ∙ (ap (λ b. list_any (has_visit p test) records || b) (l.moves p test) ∙ or-false (list_any (has_visit p test) records)))
 
   -- a journal as long as the history's is the history's
-  pub whole : (history : List Entry) (records : List journal.Entry) → Agrees diagram history a records → length (journal_of diagram history a) ≤ length records → records ≡ journal_of diagram history a
+  pub whole : (history : List Entry) (records : List journal.PlainRecord) → Agrees diagram history a records → length (journal_of diagram history a) ≤ length records → records ≡ journal_of diagram history a
   whole history records h le =
       let l = lacks diagram history a records h in
       none l.tail l.all (omega (arith, le, ap length l.all, length-append records l.tail))
     where
-      none : (tail : List journal.Entry) → records ++ tail ≡ journal_of diagram history a → length tail ≡ 0 → records ≡ journal_of diagram history a
+      none : (tail : List journal.PlainRecord) → records ++ tail ≡ journal_of diagram history a → length tail ≡ 0 → records ≡ journal_of diagram history a
       none [] e h = sym (append-nil records) ∙ e
       none (r ∷ rs) e h = absurd (omega (arith, h))

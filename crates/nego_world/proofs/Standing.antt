@@ -63,7 +63,7 @@ module _ (diagram : PlainDiagram) (ok : IsDiagram diagram) (single : IsDetermini
 
   -- A Ready with a visit that its receiver hasn't decided on, nor a later one: its sender has all records that the history
   -- gives it, and as many as the visit.
-  pub stands : (history : List Entry) (records others : List journal.Entry) (p l n v : ℕ) → p < length diagram.agents → IsHistoryOf diagram start history → Agrees diagram history p records → Agrees diagram history l others → v ≤ length records →
+  pub stands : (history : List Entry) (records others : List journal.PlainRecord) (p l n v : ℕ) → p < length diagram.agents → IsHistoryOf diagram start history → Agrees diagram history p records → Agrees diagram history l others → v ≤ length records →
       (left_by diagram p (value_in diagram start p) (take v records)).at ≡ Some n → leader_of diagram n ≡ l → list_any (has_visit p (nat_le v)) others ≡ false → (records ≡ journal_of diagram history p) × (v ≡ length records)
   stands history records others p l n v known h agrees agrees_l le at leads undecided =
       ⊎_elim (λ below. absurd (passed (own_at diagram p v history below))) as_many (cases_lt v (visits diagram p history))

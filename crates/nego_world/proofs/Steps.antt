@@ -48,7 +48,7 @@ agents-shares diagram before entry [] = refl
 agents-shares diagram before entry (p ∷ parties) = ap (λ ps. p ∷ ps) (agents-shares diagram before entry parties)
 
 -- the first of some steps are steps
-pub steps-front : (diagram : PlainDiagram) (a start : ℕ) (front rest : List journal.Entry) → AreSteps diagram a start (front ++ rest) → AreSteps diagram a start front
+pub steps-front : (diagram : PlainDiagram) (a start : ℕ) (front rest : List journal.PlainRecord) → AreSteps diagram a start (front ++ rest) → AreSteps diagram a start front
 steps-front diagram a start front rest steps i r at =
     let le : i ≤ length front = omega (arith, slice_get_within front i r at) in
     subst (λ rs. IsStep diagram (left_by diagram a start rs) r) (take-append-le i front rest le) (steps i r (at_front front rest i r at))
@@ -60,7 +60,7 @@ pub record IsWell (diagram : PlainDiagram) (agent : PlainAgent) : Type 0 where
 
 module _ (diagram : PlainDiagram) (ok : IsDiagram diagram) where
   -- the outcome of a step is one of its atom's
-  pub step-outcome : (agent : PlainAgent) (r : journal.Entry) → IsStep diagram agent r → IsOutcome (negotiation_of diagram) (record_atom r) (record_outcome r)
+  pub step-outcome : (agent : PlainAgent) (r : journal.PlainRecord) → IsStep diagram agent r → IsOutcome (negotiation_of diagram) (record_atom r) (record_outcome r)
   step-outcome agent (Moved n o after) s = s.outcome
   step-outcome agent (Decided n o shares) s = s.outcome
 
@@ -80,14 +80,14 @@ module _ (diagram : PlainDiagram) (ok : IsDiagram diagram) where
   }
 
   -- and stays so with a step
-  well-recorded : (agent : PlainAgent) (r : journal.Entry) → IsWell diagram agent → IsStep diagram agent r → IsWell diagram (recorded diagram agent r)
+  well-recorded : (agent : PlainAgent) (r : journal.PlainRecord) → IsWell diagram agent → IsStep diagram agent r → IsWell diagram (recorded diagram agent r)
   well-recorded agent r was step =
       let next : (n : ℕ) → slice_get (nexts_of diagram (record_outcome r) agent.id) 0 ≡ Some n → IsTrue (is_in n (negotiation_of diagram).atoms) × IsTrue (is_in agent.id (parties_of diagram n)) =
       λ n h. ok.form.next_party (record_atom r) (record_outcome r) agent.id n (step-outcome agent r step) (first_member (nexts_of diagram (record_outcome r) agent.id) n h) in
       record { valid = valid-recorded diagram agent r was.valid step (λ n h. atom-below diagram n (next n h).0); party = λ n h. (next n h).1 }
 
   -- steps one after another
-  well-more : (a start : ℕ) (front rest : List journal.Entry) → AreSteps diagram a start (front ++ rest) → IsWell diagram (left_by diagram a start front) → IsWell diagram (left_by diagram a start (front ++ rest))
+  well-more : (a start : ℕ) (front rest : List journal.PlainRecord) → AreSteps diagram a start (front ++ rest) → IsWell diagram (left_by diagram a start front) → IsWell diagram (left_by diagram a start (front ++ rest))
   well-more a start front [] steps was = subst (λ rs. IsWell diagram (left_by diagram a start rs)) (sym (append-nil front)) was
   well-more a start front (r ∷ rest) steps was =
       let same = append_assoc front (r ∷ []) rest in
@@ -96,7 +96,7 @@ module _ (diagram : PlainDiagram) (ok : IsDiagram diagram) where
       subst (λ rs. IsWell diagram (left_by diagram a start rs)) same (well-more a start (front ++ r ∷ []) rest (subst (λ rs. AreSteps diagram a start rs) (sym same) steps) next)
 
   -- an agent that steps leave is well
-  pub well-left : (a start : ℕ) (records : List journal.Entry) → a < length diagram.agents → start < size_of diagram a → AreSteps diagram a start records → IsWell diagram (left_by diagram a start records)
+  pub well-left : (a start : ℕ) (records : List journal.PlainRecord) → a < length diagram.agents → start < size_of diagram a → AreSteps diagram a start records → IsWell diagram (left_by diagram a start records)
   well-left a start records known below steps = well-more a start [] records steps (well-beginning a start known below)
 
 module _ (diagram : PlainDiagram) (ok : IsDiagram diagram) (single : IsDeterministic (negotiation_of diagram)) (start : ℕ) (inside : start < data_count diagram.sizes) (a : ℕ) (known : a < length diagram.agents) where
@@ -174,7 +174,7 @@ module _ (diagram : PlainDiagram) (ok : IsDiagram diagram) (single : IsDetermini
           (subst (λ x. IsStep diagram (so_far o.front) x) same (record-step o.front o.rest o.entry (subst (λ es. IsHistoryOf diagram start es) o.there h) o.party))
 
   -- and those of a journal that agrees with it
-  pub agreed-steps : (history : List Entry) (records : List journal.Entry) → IsHistoryOf diagram start history → Agrees diagram history a records → AreSteps diagram a (value_in diagram start a) records
+  pub agreed-steps : (history : List Entry) (records : List journal.PlainRecord) → IsHistoryOf diagram start history → Agrees diagram history a records → AreSteps diagram a (value_in diagram start a) records
   agreed-steps history records h agrees =
       let l = lacks diagram history a records agrees in
       steps-front diagram a (value_in diagram start a) records l.tail (subst (λ rs. AreSteps diagram a (value_in diagram start a) rs) (sym l.all) (journal-steps history h))

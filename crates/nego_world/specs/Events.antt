@@ -1,7 +1,8 @@
 -- Events and schedules in plain numbers, and whom they name.
 use Rattle.std.specs.Prelude.{ℕ, ◌<◌, List, length, map, All, ⊤}
 use Rattle.nego_model.specs.Diagram.{PlainDiagram}
-use Rattle.agent_core.specs.Worlds.{PlainEvent, Tell, Give, Decide, Stop, GoesOn, StopsBefore, StopsAfter}
+use Rattle.agent_core.specs.Deciding.{Finished, NotLeader, Waits}
+use Rattle.agent_core.specs.Worlds.{PlainEvent, Tell, Give, Decide, Stop, GoesOn, StopsBefore, StopsAfter, Refusal, NoMessage, NoDecision}
 use Rattle.nego_world.specs.declared.event.Event.{Event}
 use Rattle.nego_world.specs.declared.event.Event.TheVariants as events
 use Rattle.nego_world.specs.declared.event.EventLine.{EventLine}
@@ -24,6 +25,13 @@ NamesAgent diagram (Tell a) = a < length diagram.agents
 NamesAgent diagram (Give i ending) = ⊤
 NamesAgent diagram (Decide a choice ending) = a < length diagram.agents
 NamesAgent diagram (Stop a) = a < length diagram.agents
+
+-- An agent that the refusal of an event names is one of the diagram's.
+abbrev pub RefusalNamesAgent : PlainDiagram → Refusal → Type 0
+RefusalNamesAgent diagram (NoMessage i) = ⊤
+RefusalNamesAgent diagram (NoDecision Finished) = ⊤
+RefusalNamesAgent diagram (NoDecision NotLeader) = ⊤
+RefusalNamesAgent diagram (NoDecision (Waits p)) = p < length diagram.agents
 
 -- the event of a line, with the line
 abbrev pub plain_line : EventLine → ℕ × PlainEvent

@@ -4,7 +4,7 @@ use Rattle.std.specs.Option.{option_map, option_map_or, option_and_then, option_
 use Rattle.std.specs.List.{filter}
 use Rattle.nego_model.specs.Diagram.{PlainDiagram}
 use Rattle.agent_msg.specs.Messages.{ReadyMessage, DecideMessage, Message, ready_message, decide_message}
-use Rattle.agent_msg.specs.Records.{Share, Entry, entry, IsTidy}
+use Rattle.agent_msg.specs.Records.{Share, PlainRecord, entry, IsTidy}
 use Rattle.agent_core.specs.Agents.{share_of}
 use Rattle.agent_core.specs.Acts.{Given, Kept, Recorded, Again, Old, Stranger, ready_of, given}
 use Rattle.agent_core.specs.Deciding.{value_in}
@@ -27,7 +27,7 @@ ready_in diagram world (Decide a choice ending) = None
 ready_in diagram world (Stop a) = None
 
 -- the record that is kept of a message, if there is one
-abbrev pub kept_of : Given → Option Entry
+abbrev pub kept_of : Given → Option PlainRecord
 kept_of Kept = None
 kept_of (Recorded r) = Some r
 kept_of (Again decide) = None

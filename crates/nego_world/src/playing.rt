@@ -21,6 +21,7 @@ pub fn play(alloc: Global, d: &Diagram, start: u16, schedule: &Schedule) -> Resu
     requires known { NamesAgents d.now (plain_lines schedule.now) }
     requires few { length (plain_lines schedule.now) ≤ 10000 }
     ensures world { IfOk result (λ w. plays d.now (first_world d.now start) (plain_lines schedule.now) ≡ Ok w) }
+    ensures start { IfOk result (λ w. w.start ≡ start) }
     ensures consistent { IfOk result (IsConsistent d.now) }
     ensures finished { IfOk result (FinishesComplete d.now) }
     ensures err { IfErr result (HasPlayFault d.now start (plain_lines schedule.now)) }

@@ -3,6 +3,7 @@ pub mod Asking
 pub mod Saying
 pub mod Walking
 pub mod Said
+pub mod Spelled
 pub mod Fronts
 pub mod Names
 pub mod Putting

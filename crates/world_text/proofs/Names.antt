@@ -14,7 +14,7 @@ use Rattle.nego_model.specs.Occurring.{PlainMarking, leaves, opening_marking}
 use Rattle.nego_model.specs.Diagram.{PlainDiagram, IsDiagram, negotiation_of, relation_of, parties_of}
 use Rattle.nego_model.proofs.diagrams.Negotiations.{atom-below}
 use Rattle.nego_model.proofs.occurrence.Steps.{after-outcome, leaves-first}
-use Rattle.agent_msg.specs.Records.{Share, Entry, Moved, Decided}
+use Rattle.agent_msg.specs.Records.{Share, PlainRecord, Moved, Decided}
 use Rattle.agent_core.specs.Agents.{PlainAgent, IsValid, IsStep, left_by}
 use Rattle.agent_core.specs.Consistency.{IsConsistent}
 use Rattle.agent_core.specs.Worlds.{PlainWorld}
@@ -50,7 +50,7 @@ module _ (diagram : PlainDiagram) (ok : IsDiagram diagram) where
       let inside : k < length (map (λ (s : Share). s.agent) shares) = omega (arith, within, length-map shares (λ (s : Share). s.agent)) in
       ok.form.party_below n share.agent atom (subst (λ ps. is_in share.agent ps ≡ true) parties (member-Contains share.agent (map (λ (s : Share). s.agent) shares) (k, inside, there)))
 
-  record_named : (agent : PlainAgent) (r : Entry) → IsStep diagram agent r → IsNamedRecord diagram r
+  record_named : (agent : PlainAgent) (r : PlainRecord) → IsStep diagram agent r → IsNamedRecord diagram r
   record_named agent (Moved n o after) s = step_named n o s.outcome
   record_named agent (Decided n o shares) s = (step_named n o s.outcome, shares_named n shares s.outcome.0 s.parties)
 

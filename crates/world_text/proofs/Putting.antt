@@ -1,16 +1,11 @@
 -- Lines that are put behind a text one after another.
-use Rattle.std.proofs.Common.{◌≡◌, ℕ, zero, suc, ◌+◌, ◌-◌, ◌<◌, ◌≤◌, Bool, true, false, cond, List, [], ◌∷◌, ◌++◌, length, map, drop, take, filter, not, get_or, Option, Some, None, option_map, slice_get, refl, sym, ap, subst, ◌∙◌, append_assoc, arith}
+use Rattle.std.proofs.Common.{◌≡◌, ℕ, suc, ◌+◌, ◌-◌, ◌<◌, List, ◌∷◌, ◌++◌, length, map, drop, get_or, Some, option_map, slice_get, refl, sym, ap, subst, ◌∙◌, append_assoc, arith}
 use Rattle.std.specs.List.{flat_map, range_with_len, All}
-use Rattle.std.specs.Option.{is_none, is_some}
-use Rattle.std.proofs.lemmas.List.{get_or-map, length-map, length-take-le}
-use Rattle.std.proofs.lemmas.List.Filters.{length-filter_more}
-use Rattle.nego_base.proofs.BoolLaws.{length-filter_le}
-use Rattle.std.proofs.lemmas.List.Elements.{All-head, All-tail}
-use Rattle.std.proofs.lemmas.Option.{same_Some, slice_get-get_or, slice_get_within, get_or_from_slice_get}
+use Rattle.std.proofs.lemmas.List.{get_or-map, length-map}
+use Rattle.std.proofs.lemmas.Option.{same_Some, slice_get-get_or, get_or_from_slice_get}
 use Rattle.nego_base.specs.declared.ids.AtomId.{AtomId}
 use Rattle.nego_base.specs.declared.ids.OutcomeId.{OutcomeId}
 use Rattle.nego_base.proofs.LineLoops.{cut_at}
-use Rattle.nego_data.specs.Data.{data_count}
 use Rattle.nego_model.specs.Followed.{occurrences}
 use Rattle.nego_model.specs.Joining.{steps_of}
 use Rattle.nego_model.specs.Joining as model
@@ -18,7 +13,7 @@ use Rattle.nego_model.specs.Diagram.{PlainDiagram}
 use Rattle.agent_msg.specs.Records.{Share, share}
 use Rattle.agent_core.specs.Agents.{PlainAgent, beginning}
 use Rattle.agent_core.specs.Worlds.{PlainWorld, agent_of, start_of}
-use Rattle.world_text.specs.Named.{IsNamedStep, IsNamedEntry}
+use Rattle.world_text.specs.Named.{IsNamedEntry}
 
 -- ---- lists of lines
 
@@ -80,34 +75,3 @@ module _ (diagram : PlainDiagram) where
       let a = get_or parties k d in
       let inside : k < length (map (share visits afters) parties) = omega (arith, within, length-map parties (share visits afters)) in
       subst (λ (s : Share). s.agent < length diagram.agents) (get_or-map (share visits afters) parties k d (share visits afters d) within) (all k (share visits afters d) inside)
-
--- ---- who is finished
-
-pub is_none-map : {A B : Type 0} (f : A → B) (o : Option A) → is_none (option_map f o) ≡ is_none o
-is_none-map f None = refl
-is_none-map f (Some x) = refl
-
-pub none_is : {A : Type 0} (o : Option A) (r : Bool) → not r ≡ is_some o → is_none o ≡ r
-none_is None true h = refl
-none_is None false h = absurd cc
-none_is (Some x) true h = absurd cc
-none_is (Some x) false h = refl
-
--- how many of the first agents are finished
-abbrev pub finished_among : List PlainAgent → ℕ
-finished_among agents = length (filter (λ agent. is_none agent.at) agents)
-
-pub finished_next : (agents : List PlainAgent) (a : ℕ) (agent : PlainAgent) (t : Bool) → slice_get agents a ≡ Some agent → is_none agent.at ≡ t → finished_among (take (a + 1) agents) ≡ cond t (finished_among (take a agents) + 1) (finished_among (take a agents))
-finished_next agents a agent t h is =
-    length-filter_more (λ (agent : PlainAgent). is_none agent.at) agents a agent (slice_get_within agents a agent h)
-    ∙ (ap (λ (x : PlainAgent). finished_among (take a agents) + cond (is_none x.at) 1 0) (get_or_from_slice_get agents a agent agent h) ∙ (ap (λ (b : Bool). finished_among (take a agents) + cond b 1 0) is ∙ by_test t))
-  where
-    by_test : (t : Bool) → finished_among (take a agents) + cond t 1 0 ≡ cond t (finished_among (take a agents) + 1) (finished_among (take a agents))
-    by_test true = refl
-    by_test false = omega arith
-
-pub finished_few : (agents : List PlainAgent) (a : ℕ) → a ≤ length agents → finished_among (take a agents) ≤ a
-finished_few agents a within =
-    let few = length-filter_le (λ (agent : PlainAgent). is_none agent.at) (take a agents) in
-    let short = length-take-le a agents within in
-    omega (arith, few, short)

@@ -1,13 +1,14 @@
 -- The report of a world. Every line ends with a newline; agents, atoms and outcomes stand with their names.
-use Rattle.std.specs.Prelude.{ℕ, List, ◌++◌, length, filter, Option, codes, decimal}
+use Rattle.std.specs.Prelude.{ℕ, List, ◌++◌, length, Option, codes, decimal}
 use Rattle.std.specs.List.{flat_map, range_with_len}
-use Rattle.std.specs.Option.{is_none, option_map_or}
+use Rattle.std.specs.Option.{option_map_or}
 use Rattle.nego_data.specs.Data.{split}
 use Rattle.nego_model.specs.Joining as model
 use Rattle.nego_model.specs.Diagram.{PlainDiagram, agent_name, atom_name, outcome_name}
-use Rattle.agent_msg.specs.Records.{Share, Entry, Moved, Decided}
+use Rattle.agent_msg.specs.Records.{Share, PlainRecord, Moved, Decided}
 use Rattle.agent_core.specs.Agents.{PlainAgent}
 use Rattle.agent_core.specs.Worlds.{PlainWorld, agent_of}
+use Rattle.nego_world.specs.Stepping.{finished_count}
 
 -- an atom and an outcome
 abbrev pub step_words : PlainDiagram → ℕ → ℕ → List ℕ
@@ -26,7 +27,7 @@ abbrev pub share_words : PlainDiagram → Share → List ℕ
 share_words diagram share = codes " " ++ (agent_name diagram share.agent ++ (codes ":" ++ (decimal share.visit ++ (codes ":" ++ decimal share.after))))
 
 -- a record of an agent
-abbrev pub record_line : PlainDiagram → Entry → List ℕ
+abbrev pub record_line : PlainDiagram → PlainRecord → List ℕ
 record_line diagram (Moved n o after) = codes "move " ++ (step_words diagram n o ++ (codes " " ++ (decimal after ++ codes "\n")))
 record_line diagram (Decided n o shares) = codes "decision " ++ (step_words diagram n o ++ (flat_map (share_words diagram) shares ++ codes "\n"))
 
@@ -35,17 +36,13 @@ abbrev pub place_words : PlainDiagram → Option ℕ → List ℕ
 place_words diagram at = option_map_or (λ n. codes " at " ++ atom_name diagram n) at (codes " done")
 
 -- how many records an agent has, and the records
-abbrev pub journal_lines : PlainDiagram → ℕ → List Entry → List ℕ
+abbrev pub journal_lines : PlainDiagram → ℕ → List PlainRecord → List ℕ
 journal_lines diagram count records = codes " records " ++ (decimal count ++ (codes "\n" ++ flat_map (record_line diagram) records))
 
 -- the agent of a number: where it is, its value, and its records
 abbrev pub agent_lines : PlainDiagram → ℕ → PlainAgent → List ℕ
 agent_lines diagram a agent =
     codes "agent " ++ (agent_name diagram a ++ (place_words diagram agent.at ++ (codes " " ++ (decimal agent.value ++ journal_lines diagram (length agent.records) agent.records))))
-
--- how many agents are finished
-abbrev pub finished_count : PlainWorld → ℕ
-finished_count world = length (filter (λ agent. is_none agent.at) world.agents)
 
 -- how many events there were, and how many messages were sent
 abbrev pub head_lines : PlainWorld → ℕ → List ℕ

@@ -1,14 +1,14 @@
 //! From the text of a schedule to its events.
 
-ghost use Rattle.std.specs.Prelude.{◌-◌, ◌<◌, ◌^◌, ◌∷◌, ◌++◌, [], All, IfOk, IfErr, drop, length, map};
+ghost use Rattle.std.specs.Prelude.{◌-◌, ◌<◌, ◌≤◌, ◌^◌, ◌∷◌, ◌++◌, [], All, IfOk, IfErr, drop, length, map};
 ghost use Rattle.nego_base.specs.LineAnswers.{Gives, Tells, FitsLine};
 ghost use Rattle.nego_base.specs.declared.fault.Fault.{Fault};
 ghost use Rattle.nego_base.specs.LineGrammar.{missing_end};
 ghost use Rattle.nego_model.specs.Limits.{HasNames};
-ghost use Rattle.nego_world.specs.Events.{plain_lines};
+ghost use Rattle.nego_world.specs.Events.{plain_lines, NamesAgents};
 ghost use Rattle.world_text.specs.ScheduleReading.{walk, plain_items};
 ghost use Rattle.world_text.specs.ScheduleTable.{Begin, Behind, Over, SpellsSchedule, ScheduleHasCause, SpellsNothing};
-ghost use Rattle.world_text.specs.ScheduleText.{EventRow, EndRow, rows_of};
+ghost use Rattle.world_text.specs.ScheduleText.{most_events, EventRow, EndRow, rows_of};
 
 use crate::lines::{event, header};
 use nego_base::{AgentId, Fault, FaultKind, Line, ReadFaults, Seq, missing_end, scan};
@@ -21,6 +21,8 @@ pub fn read_schedule(alloc: Global, d: &Diagram, bytes: &[u8]) -> Result<Schedul
     // Each line, and the one behind the last, has a number of 32 bits.
     requires { length bytes.now < 2 ^ 32 - 1 }
     ensures spelled { IfOk result (λ s. SpellsSchedule d.now bytes.now (plain_lines s)) }
+    ensures named { IfOk result (λ s. NamesAgents d.now (plain_lines s)) }
+    ensures few { IfOk result (λ s. length (plain_lines s) ≤ most_events) }
     ensures fault { IfErr result (λ e. ScheduleHasCause d.now e bytes.now) }
     ensures unspelled { IfErr result (λ e. SpellsNothing d.now e bytes.now) }
 {

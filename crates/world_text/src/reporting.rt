@@ -9,7 +9,7 @@ ghost use Rattle.agent_msg.specs.Records.{entry, share};
 ghost use Rattle.agent_core.specs.Agents.{IsValid};
 ghost use Rattle.agent_core.specs.Consistency.{IsConsistent};
 ghost use Rattle.world_text.specs.Named.{IsNamedStep, IsNamedEntry, IsNamedRecord};
-ghost use Rattle.world_text.specs.ReportText.{step_words, number_words, entry_line, share_words, record_line, place_words, journal_lines, agent_lines, head_lines, all_agents, finished_count, report_text};
+ghost use Rattle.world_text.specs.ReportText.{step_words, number_words, entry_line, share_words, record_line, place_words, journal_lines, agent_lines, head_lines, all_agents, report_text};
 
 use agent_core::Agent;
 use agent_msg::Record;
@@ -29,7 +29,7 @@ pub fn report(alloc: Global, d: &Diagram, w: &World, events: u64) -> Result<Text
     let mut text = head(alloc, w, events)?;
     put_history(&mut text, d, w)?;
     put_agents(&mut text, d, w)?;
-    put_finished(&mut text, finished(d, w), agents)?;
+    put_finished(&mut text, w.finished(), agents)?;
     Ok(text)
 }
 
@@ -54,20 +54,6 @@ fn put_finished(text: &mut Text, finished: u32, agents: u32) -> Result<(), Memor
     text.extend_from_slice(b" of ")?;
     text.push_decimal(u64::from(agents))?;
     text.extend_from_slice(b"\n")
-}
-
-/// How many agents are finished.
-fn finished(d: &Diagram, w: &World) -> u32
-    requires { IsConsistent d.now w.now }
-    ensures { result ≡ finished_count w.now }
-{
-    let mut count = 0;
-    for a in 0..d.agents() {
-        if w.agent(AgentId(a)).at().is_none() {
-            count += 1;
-        }
-    }
-    count
 }
 
 /// Puts the history behind the text.

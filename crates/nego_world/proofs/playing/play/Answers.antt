@@ -1,11 +1,11 @@
 use Rattle.std.proofs.Common.{◌≡◌, ◌+◌, ◌-◌, ◌≤◌, suc, drop, length, map, slice_index_or, sym, ap, subst, ◌∙◌, arith}
 use Rattle.std.proofs.lemmas.List.{at_drop_all, length-map}
-use Rattle.agent_core.specs.Worlds.{plays}
+use Rattle.agent_core.specs.Worlds.{first_world, plays}
 use Rattle.nego_world.specs.Events.{plain_event, plain_line, plain_lines, NamesAgents}
 use Rattle.nego_world.specs.Stepping.{HasPlayFault}
 use Rattle.nego_world.proofs.Acting.{fault-is}
 use Rattle.nego_world.proofs.Finishing.{finishes-complete}
-use Rattle.nego_world.proofs.Happening.{deed-allowed}
+use Rattle.nego_world.proofs.Happening.{deed-allowed, plays-start}
 use Rattle.nego_world.proofs.Lines.{HasRoomFor, no_line, at-line, named-line, line-goes, line-stops, room-after, first-room}
 use Rattle.nego_world.proofs.playing.play.Goals as goal
 
@@ -59,6 +59,9 @@ loop-line-preserved c =
 pub returns-clause-world : goal.returns-clause-world
 returns-clause-world c =
     c.loop-line.invariant.leads ∙ at_drop_all (λ xs. plays c.args.d.now c.loop-line.world (map plain_line xs)) c.deref-line-items.result.now c.loop-line.line-index (omega (arith, c.loop-line-test.false))
+
+pub returns-clause-start : goal.returns-clause-start
+returns-clause-start c = plays-start c.args.d.now (plain_lines c.args.schedule.now) (first_world c.args.d.now c.args.start) c.loop-line.world (returns-clause-world c)
 
 pub returns-clause-finished : goal.returns-clause-finished
 returns-clause-finished c = finishes-complete c.args.d.now c.agents-agents.ensures.diagram c.requires.deterministic c.loop-line.world c.loop-line.invariant.consistent
