@@ -7,27 +7,34 @@ mod data;
 mod diagrams;
 mod edge;
 mod linking;
+mod made;
 mod naming;
 mod refusals;
 mod replays;
 mod rules;
 mod runs;
+mod schedules;
 mod shapes;
+mod summaries;
 mod verdicts;
 mod words;
 
 use answers::ANSWERS;
 use asks::ASKS;
-use calls::{BAD_WORDS, Call, answers};
+use calls::{BAD_WORDS, Call, answers, answers_behind};
+use made::{MADE, largest_is_answered, numbers_are_the_formulas};
 use refusals::{FAULTS, REFUSALS, lines_are_refused};
-use replays::{certificates_are_replayed, long_certificates_end, reductions_are_replayed};
+use replays::{REPLAYS, long_certificates_end, reductions_are_replayed};
+use schedules::{SCHEDULES, long_schedules_end};
 use shapes::shapes_are_told;
 use std::test::Fail;
+use summaries::summaries_are_read;
 use verdicts::{VERDICTS, hub_is_undecided};
 
 /// Words that are no command that is built.
-static NOT_BUILT: [&str; 9] = [
-    "", "reduce x", "replay x", "help", "--help", "ask", "ask 01", "make 65", "make 2",
+static NOT_BUILT: [&str; 13] = [
+    "", "reduce x", "replay x", "help", "--help", "ask", "ask 01", "make 65", "make 1", "make 02",
+    "make", "make 2 2", "make x",
 ];
 
 #[test]
@@ -58,11 +65,24 @@ fn calls_over_memory(rt: HostRuntime) -> Result<(), Fail> {
 }
 
 #[test]
-fn replays_over_memory(rt: HostRuntime) -> Result<(), Fail> {
+fn parts_behind_diagrams(rt: HostRuntime) -> Result<(), Fail> {
     let alloc = rt.alloc();
-    certificates_are_replayed(&rt, alloc)?;
+    answers_behind(&rt, alloc, &REPLAYS, "replay")?;
     long_certificates_end(&rt, alloc)?;
-    reductions_are_replayed(&rt, alloc)
+    summaries_are_read(&rt, alloc)?;
+    reductions_are_replayed(&rt, alloc)?;
+    answers_behind(&rt, alloc, &SCHEDULES, "run")?;
+    long_schedules_end(&rt, alloc)
+}
+
+#[test]
+fn diagrams_are_made(rt: HostRuntime) -> Result<(), Fail> {
+    let alloc = rt.alloc();
+    for (i, call) in MADE.iter().enumerate() {
+        answers(&rt, alloc, call, "made", i)?;
+    }
+    numbers_are_the_formulas(&rt, alloc)?;
+    largest_is_answered(&rt, alloc)
 }
 
 #[test]

@@ -1,5 +1,5 @@
 -- Answers of commands that read several parts: what is answered behind a part follows from what is answered of the rest.
-use Rattle.std.proofs.Common.{◌≡◌, ◌∙◌, inl, inr, ℕ, suc, ◌+◌, ◌<◌, List, [], ◌∷◌, length, Option, Some, Result, Ok, Err, refl, subst, arith}
+use Rattle.std.proofs.Common.{◌≡◌, ◌∙◌, inl, inr, ℕ, suc, ◌+◌, ◌<◌, List, [], ◌∷◌, length, Option, Some, Result, Ok, Err, IfOk, IfErr, refl, subst, arith}
 use Rattle.nego_model.specs.Negotiation.{IsDeterministic}
 use Rattle.nego_model.specs.Diagram.{PlainDiagram, negotiation_of}
 use Rattle.nego_cli.specs.declared.answer.Answer.{Answer}
@@ -15,7 +15,7 @@ use Rattle.nego_cli.specs.Turn.{Turn, TellsText, Refuses, TurnOver, TextOver}
 use Rattle.nego_cli.specs.Reduce.{IsUndetermined}
 use Rattle.nego_cli.specs.Replay.{TurnWhereDetermined}
 use Rattle.nego_cli.specs.Commands.{TurnOf, TextOf, most_parts}
-use Rattle.nego_cli.specs.Dispatch.{IsAnswer, IsAnswerBy, IsRefusedFor}
+use Rattle.nego_cli.specs.Dispatch.{IsAnswer, IsAnswerBy, IsRefusedFor, HasNoText}
 use Rattle.nego_cli.proofs.PartLaws.{read_then, took_then, took_more, took_none, failed_then, read_none}
 
 -- with a part read, no more than it and some others were taken
@@ -95,3 +95,16 @@ command_answer command ends tells most turns texts count source (Err (failures.R
 command_answer command ends tells most turns texts count source (Err failures.ReadFault) (some, failed, took) = (subst (λ n. 0 < n) count some, failed, subst (λ n. TookParts n source) count took)
 command_answer command ends tells most turns texts count source (Err failures.Memory) (stayed, took) = (stayed, subst (λ n. TookParts n source) count took)
 command_answer command ends tells most turns texts count source (Err failures.Words) h = absurd h
+
+-- the answer of a command that reads nothing
+pub unread_answer : {X : Type 0} (command : Command) (ends : List Read → Turn → Type 0) (tells : List Read → Status → List ℕ → Type 0) → ((reads : List Read) (turn : Turn) → ends reads turn → TurnOf command reads turn) →
+    ((reads : List Read) (status : Status) (text : List ℕ) → tells reads status text → TextOf command reads status text) → 0 ≡ most_parts (Some command) → (bytes : X → Option (List ℕ)) (faults : X → ℕ) (x : X) (r : Result Answer Failure) →
+    IfOk r (λ _. ends [] TellsText) → IfOk r (λ answer. tells [] answer.status answer.text) → IfErr r (HasNoText ends []) → IsAnswer command (effect bytes faults x x) r
+unread_answer command ends tells turns texts count bytes faults x (Ok answer) turn told failed =
+    command_answer command ends tells 0 turns texts count (effect bytes faults x x) (Ok answer) (text_answer ends tells bytes faults x answer turn told)
+unread_answer command ends tells turns texts count bytes faults x (Err (failures.Refused why)) turn told failed =
+    command_answer command ends tells 0 turns texts count (effect bytes faults x x) (Err (failures.Refused why)) ([], read_none bytes faults x, failed)
+unread_answer command ends tells turns texts count bytes faults x (Err failures.Memory) turn told failed =
+    command_answer command ends tells 0 turns texts count (effect bytes faults x x) (Err failures.Memory) (starved_answer ends tells bytes faults x)
+unread_answer command ends tells turns texts count bytes faults x (Err failures.ReadFault) turn told failed = absurd failed
+unread_answer command ends tells turns texts count bytes faults x (Err failures.Words) turn told failed = absurd failed

@@ -11,7 +11,8 @@ use Rattle.nego_expr.specs.Use.{PlainUse, Merge, Iterate, Shortcut, Close}
 use Rattle.nego_cert.specs.CertificateText.{certificate_text}
 use Rattle.nego_cert.specs.Lines.{use_words}
 use Rattle.nego_cert.specs.Table.{HasShortNumbers}
-use Rattle.nego_cert.proofs.PrintedCertificates.{header_words, end_words, printed_lines}
+use Rattle.nego_cert.proofs.PrintedCertificates.{header_words, printed_lines}
+use Rattle.nego_cert.proofs.PrintedLines.{end_words}
 
 abbrev ended : List (List ℕ) → List ℕ
 ended words = printed_line words ++ 10 ∷ []

@@ -67,7 +67,7 @@ what_is_said words source out err (Err failures.Memory) status cause (nothing, p
 
 -- ---- each cause has its answer
 
-asks_not_none : (words : List (List ℕ)) (command : Command) → Asks words command → asked words ≡ None → ⊥
+pub asks_not_none : (words : List (List ℕ)) (command : Command) → Asks words command → asked words ≡ None → ⊥
 asks_not_none words command asks none = let apart : Some command ≡ None = sym asks ∙ none in cc
 
 -- the line was put, or not
@@ -102,7 +102,7 @@ same_turn words command reads turn input left asks here is other n turn' asks' t
     (same, is.0 ∙ ap (λ i. reads_at i input) both.0, both.1)
 
 -- what is shown where a refusal has its cause
-abbrev IsRefusalShown : List (List ℕ) → Effect → Effect → Effect → Status → List ℕ → List ℕ → Type 0
+abbrev pub IsRefusalShown : List (List ℕ) → Effect → Effect → Effect → Status → List ℕ → List ℕ → Type 0
 IsRefusalShown words source out err status input _ = (command : Command) (n : ℕ) (why : Refusal) → Asks words command → TurnOf command (reads_at n input) (Refuses why) →
     ShowsLine (failures.Refused why) out err status ⊎ FailsToRead source status
 
@@ -141,7 +141,7 @@ refusal_shown words source out err (Err failures.Memory) status cause (nothing, 
     (λ input left took command n why asks turn. inl (memory_shown (failures.Refused why) out err status put)) cause.1
 
 -- what is put of a text
-text_put : (command : Command) (reads : List Read) (answer : Answer) (out err : Effect) (status : Status) → TextOf command reads answer.status answer.text → IsDelivered (Ok answer) out err status → ShowsText command reads out err status
+pub text_put : (command : Command) (reads : List Read) (answer : Answer) (out err : Effect) (status : Status) → TextOf command reads answer.status answer.text → IsDelivered (Ok answer) out err status → ShowsText command reads out err status
 text_put command reads answer out err status told (inl (is, put, nothing)) = inl (answer.text, subst (λ s. TextOf command reads s answer.text) (sym is) told, put, nothing)
 text_put command reads answer out err status told (inr (is, front, tried)) = inr (inl (is, inl front.0))
 
@@ -151,7 +151,7 @@ line_for_text : (command : Command) (reads : List Read) (source out err : Effect
 line_for_text command reads source out err status failed (inl (is, put)) = inr (is, failed)
 line_for_text command reads source out err status failed (inr (is, front)) = inl (inr (inl (is, inr front.0)))
 
-memory_for_text : (command : Command) (reads : List Read) (out err : Effect) (status : Status) → IsLinePut (failure_line failures.Memory) statuses.Memory err status → ShowsText command reads out err status
+pub memory_for_text : (command : Command) (reads : List Read) (out err : Effect) (status : Status) → IsLinePut (failure_line failures.Memory) statuses.Memory err status → ShowsText command reads out err status
 memory_for_text command reads out err status (inl (is, put)) = inr (inr is)
 memory_for_text command reads out err status (inr (is, front)) = inr (inl (is, inr front.0))
 

@@ -1,19 +1,19 @@
 -- What was read where a diagram was wanted.
 use Rattle.std.proofs.Common.{◌≡◌, ◌∙◌, ℕ, List, Option, Some, None, refl, sym, ap, ap₂, subst, inl, inr}
-use Rattle.std.specs.Prelude.{IfSome}
-use Rattle.std.specs.Option.{option_or}
-use Rattle.std.proofs.lemmas.Option.{same_Some}
 use Rattle.nego_model.specs.Diagram.{PlainDiagram, IsDiagram}
 use Rattle.nego_reader.specs.Content.{content_of}
-use Rattle.nego_shape.proofs.ShapedDiagrams.{shaped-diagram}
+use Rattle.nego_model.specs.Limits.{HasNames}
+use Rattle.nego_shape.proofs.ShapedDiagrams.{shaped-diagram, shaped-names}
+use Rattle.nego_shape.proofs.SpelledNames.{spelled-names}
 use Rattle.nego_reader.specs.declared.parsed.Parsed.{Parsed}
 use Rattle.nego_reader.specs.Spelling.{Spells}
+use Rattle.nego_reader.proofs.RisingWords.{rising}
 use Rattle.nego_reader.proofs.Said.{spelled_once, first_fault_once}
 use Rattle.nego_shape.specs.declared.fault.ShapeFault.{ShapeFault}
-use Rattle.nego_shape.specs.Answer.{AreJointIn}
-use Rattle.nego_shape.specs.Faults.{form_fault, not_total, shape_fault}
-use Rattle.nego_shape.proofs.JointLaws.{form_joint, total_joint}
-use Rattle.nego_shape.proofs.SoundShape.{shaped_form, sound_shape}
+use Rattle.nego_shape.specs.Conditions.{HasShape, condition_of}
+use Rattle.nego_shape.specs.FirstFault.{IsFirstFault}
+use Rattle.nego_shape.proofs.JointLaws.{first_joint}
+use Rattle.nego_shape.proofs.OneFault.{one_fault}
 use Rattle.nego_cli.specs.declared.failure.PartName.TheVariants as parts
 use Rattle.nego_cli.specs.declared.failure.Refusal.{Refusal}
 use Rattle.nego_cli.specs.declared.failure.Refusal.TheVariants as refusals
@@ -28,10 +28,9 @@ one_diagram : (text : List ℕ) (d e : PlainDiagram) → SpellsDiagram text d �
 one_diagram text d e s t = s.is ∙ (ap diagram_of (spelled_once text s.value t.value s.spelled t.spelled) ∙ sym t.is)
 
 -- a value that a text spells has no fault of shape where it spells a diagram
-misshapen_not : (text : List ℕ) (p : Parsed) (fault : ShapeFault) (d : PlainDiagram) → Spells text p → shape_fault p ≡ Some fault → SpellsDiagram text d → ⊥
+misshapen_not : (text : List ℕ) (p : Parsed) (fault : ShapeFault) (d : PlainDiagram) → Spells text p → IsFirstFault p fault → SpellsDiagram text d → ⊥
 misshapen_not text p fault d spelled faulty s =
-    let apart : Some fault ≡ None = sym faulty ∙ (ap shape_fault (spelled_once text p s.value spelled s.spelled) ∙ s.shaped) in
-    cc
+    faulty.first.broken (subst (λ q. HasShape (content_of q)) (spelled_once text s.value p s.spelled spelled) s.shaped (condition_of fault.kind))
 
 -- a text that has no diagram spells none
 no_diagram_not : (text : List ℕ) (why : Refusal) (d : PlainDiagram) → HasNoDiagram text why → SpellsDiagram text d → ⊥
@@ -45,7 +44,7 @@ why_once text why other (inl (fault, is, off)) (inr (p, fault', is', spelled, fi
 why_once text why other (inr (p, fault', is', spelled, first')) (inl (fault, is, off)) = absurd (off.nothing p spelled)
 why_once text why other (inr (p, fault, is, spelled, first)) (inr (q, fault', is', spelled', first')) =
     let same : p ≡ q = spelled_once text p q spelled spelled' in
-    is ∙ (ap₂ refusals.Misshapen same (same_Some fault fault' (sym first ∙ (ap shape_fault same ∙ first'))) ∙ sym is')
+    is ∙ (ap₂ refusals.Misshapen same (one_fault p (rising text p spelled) fault fault' first (subst (λ r. IsFirstFault r fault') (sym same) first')) ∙ sym is')
 
 -- the reason that what was read is no diagram is one
 no_diagram_once : (read : Read) (why other : Refusal) → IsNoDiagram read why → IsNoDiagram read other → why ≡ other
@@ -55,16 +54,9 @@ no_diagram_once (ReadNoEnd line) why other h k = h ∙ sym k
 
 -- ---- what a refusal names
 
-some_has : {B : Type 0} (P : B → Type 0) (o : Option B) (x : B) → IfSome o P → o ≡ Some x → P x
-some_has P o x h is = subst (λ o. IfSome o P) is h
-
-joint_of : (p : Parsed) (fault : ShapeFault) (first : Option ShapeFault) → form_fault p ≡ first → option_or first (not_total p) ≡ Some fault → AreJointIn p fault.kind
-joint_of p fault (Some f) is h = some_has (λ x. AreJointIn p x.kind) (form_fault p) fault (form_joint p) (is ∙ h)
-joint_of p fault None is h = some_has (λ x. AreJointIn p x.kind) (not_total p) fault (total_joint p (shaped_form p is).sizes) h
-
 named_in : (text : List ℕ) (why : Refusal) → HasNoDiagram text why → IsNamed why
 named_in text why (inl (fault, is, off)) = subst IsNamed (sym is) tt
-named_in text why (inr (p, fault, is, spelled, first)) = subst IsNamed (sym is) (joint_of p fault (form_fault p) refl first)
+named_in text why (inr (p, fault, is, spelled, first)) = subst IsNamed (sym is) (first_joint p fault first)
 
 -- what is named where there is no diagram is there
 no_diagram_named : (read : Read) (why : Refusal) → IsNoDiagram read why → IsNamed why
@@ -87,4 +79,9 @@ diagrams = record { one_value = one_diagram; not_both = no_diagram_not; one_reas
 
 -- what a text spells is a diagram
 pub spelled_diagram : (text : List ℕ) (d : PlainDiagram) → SpellsDiagram text d → IsDiagram d
-spelled_diagram text d spelled = subst IsDiagram (sym spelled.is) (shaped-diagram (content_of spelled.value) (sound_shape spelled.value spelled.shaped))
+spelled_diagram text d spelled = subst IsDiagram (sym spelled.is) (shaped-diagram (content_of spelled.value) spelled.shaped)
+
+-- and it has names
+pub spelled_names : (text : List ℕ) (d : PlainDiagram) → SpellsDiagram text d → HasNames d
+spelled_names text d spelled =
+    subst HasNames (sym spelled.is) (shaped-names (content_of spelled.value) spelled.shaped (spelled-names text spelled.value spelled.spelled))

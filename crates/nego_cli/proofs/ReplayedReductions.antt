@@ -13,7 +13,6 @@ use Rattle.nego_model.specs.Diagram.{PlainDiagram, negotiation_of}
 use Rattle.nego_model.specs.Limits.{IsWithinLimits}
 use Rattle.nego_reader.specs.Content.{content_of}
 use Rattle.nego_shape.proofs.ShapedDiagrams.{shaped-limits}
-use Rattle.nego_shape.proofs.SoundShape.{sound_shape}
 use Rattle.nego_base.specs.Members.{is_in}
 use Rattle.nego_base.proofs.Members.{one_member}
 use Rattle.nego_expr.specs.Work.{WorkAtom, PlainWork, IsWork, outcome_at, outcomes_at, work_parties}
@@ -61,7 +60,7 @@ use Rattle.nego_cli.proofs.ReplayHeadlines.{taken}
 -- ---- what is read
 
 -- a part that is closed, with more behind it
-read_closed : (part rest : List ℕ) → IsClosedPart part → length part ≤ part_limit → (read_at (part ++ rest) ≡ ReadPart part) × (behind part_limit (part ++ rest) ≡ rest)
+pub read_closed : (part rest : List ℕ) → IsClosedPart part → length part ≤ part_limit → (read_at (part ++ rest) ≡ ReadPart part) × (behind part_limit (part ++ rest) ≡ rest)
 read_closed part rest closed fits =
     let is : reading part_limit (part ++ rest) ≡ Whole part rest = reading_closed part_limit part rest (λ more. closed_parts_stand part more closed) fits in
     (ap read_of is, ap (left_over part_limit (part ++ rest)) is)
@@ -152,7 +151,7 @@ replayed_so : (part text : List ℕ) (d : PlainDiagram) (uses : List PlainUse) (
     IsReducedTo d uses left verdict → text ≡ reduction_text d uses left verdict → IsReplayed part text
 replayed_so part text d uses left verdict closed fits spelled determined reduced printed =
     let value = spelled.0.value in
-    let limits : IsWithinLimits d = subst IsWithinLimits (sym spelled.0.is) (shaped-limits (content_of value) (sound_shape value spelled.0.shaped)) in
+    let limits : IsWithinLimits d = subst IsWithinLimits (sym spelled.0.is) (shaped-limits (content_of value) spelled.0.shaped) in
     let fresh : IsFresh (fresh_work d) d = record { diagram_read = spelled.1; limits = limits; determined = determined; fresh = refl } in
     let small = uses_small d left uses fresh reduced.leads in
     let short = uses_short uses small in

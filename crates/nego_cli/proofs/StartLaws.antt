@@ -19,6 +19,10 @@ module _ (d : PlainDiagram) (values : List ℕ) where
       let never : ⊥ = omega (arith, low, high) in
       never
 
+  -- values are one start
+  pub same_start : (start other : ℕ) → StartsAt d values (Ok start) → StartsAt d values (Ok other) → start ≡ other
+  same_start start other h k = h.2 ∙ sym k.2
+
   module _ (diagram : IsDiagram d) where
     -- no value of joint data is too large
     not_past : (start : ℕ) (a : AgentId) → StartsAt d values (Ok start) → StartsAt d values (Err (StartTooLarge a)) → ⊥

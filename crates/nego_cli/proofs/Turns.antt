@@ -1,9 +1,12 @@
 -- How commands end: in one way, behind as many parts as the table of parts says at most.
-use Rattle.std.proofs.Common.{◌≡◌, ◌∙◌, ⊎_elim, inl, inr, ℕ, suc, ◌+◌, ◌-◌, ◌≤◌, List, [], ◌∷◌, ◌++◌, length, Some, Result, Ok, Err, refl, sym, ap, subst, arith}
+use Rattle.std.proofs.Common.{◌≡◌, ◌∙◌, ⊎_elim, inl, inr, ℕ, ◌+◌, ◌-◌, ◌≤◌, List, [], ◌∷◌, length, Some, Result, Ok, Err, refl, sym, ap, subst, arith}
 use Rattle.std.specs.Prelude.{IfOk, IfErr}
 use Rattle.std.proofs.lemmas.Bool.{cases_lt}
 use Rattle.nego_model.specs.Negotiation.{IsDeterministic}
 use Rattle.nego_model.specs.Diagram.{PlainDiagram, IsDiagram, negotiation_of}
+use Rattle.nego_model.specs.Limits.{HasNames}
+use Rattle.agent_core.specs.Worlds.{PlainEvent}
+use Rattle.world_text.specs.ScheduleTable.{SpellsSchedule}
 use Rattle.nego_cli.specs.declared.answer.Answer.{Answer}
 use Rattle.nego_cli.specs.declared.command.Command.{Command}
 use Rattle.nego_cli.specs.declared.command.Command.TheVariants as commands
@@ -14,14 +17,15 @@ use Rattle.nego_cli.specs.declared.status.Status.{Status}
 use Rattle.nego_cli.specs.declared.verdict.Verdict.{Verdict}
 use Rattle.nego_cli.specs.declared.verdict.Verdict.TheVariants as verdicts
 use Rattle.nego_cli.specs.Effect.{Effect}
-use Rattle.nego_cli.specs.Parts.{Read, ReadPart, ReadTooLong, ReadNoEnd, reads_at, behind_parts, TookParts}
+use Rattle.nego_cli.specs.Parts.{Read, ReadPart, reads_at, behind_parts, TookParts}
 use Rattle.nego_cli.specs.Loading.{SpellsDiagram, IsNoDiagram, IsDiagramOf, HasValue}
-use Rattle.nego_cli.specs.Turn.{Turn, TellsText, Refuses, TurnHere, TurnOver, TextOver, TurnOverDiagram, TextOverDiagram}
+use Rattle.nego_cli.specs.Turn.{Turn, TellsText, Refuses, TurnOver, TurnOverDiagram, TextOverDiagram}
 use Rattle.nego_cli.specs.Check.{CheckTurn, CheckText}
 use Rattle.nego_cli.specs.Reduce.{ReduceTurn, ReduceText, IsUndetermined}
 use Rattle.nego_cli.specs.Starts.{CanStart, CannotStart}
 use Rattle.nego_cli.specs.Replay.{CertificateTurn, ReplayTurn, ReplayText, TurnWhereDetermined, IsReplayText, replay_status}
 use Rattle.nego_cli.specs.Ask.{AskTurn, AskText}
+use Rattle.nego_cli.specs.Run.{RunTurn, RunText, ScheduleTurn, ScheduleText, CanPlay, CannotPlay}
 use Rattle.nego_cli.specs.Verdict.{verdict_status}
 use Rattle.nego_cli.specs.Status.{IsTelling}
 use Rattle.nego_cli.specs.Commands.{TurnOf, TextOf, parts_of, most_parts}
@@ -31,82 +35,14 @@ use Rattle.nego_cli.proofs.PartLaws.{length_reads, reads_more, took_parts}
 use Rattle.nego_cert.specs.declared.cert.Cert.{Cert}
 use Rattle.nego_cert.specs.Table.{SpellsCertificate}
 use Rattle.nego_cert.specs.Replay.{PlainVerdict, Accepted, Rejected, NotOne}
-use Rattle.nego_cli.specs.Loading.{IsNoCertificate}
-use Rattle.nego_cli.proofs.Loaded.{IsKind, diagrams, spelled_diagram}
+use Rattle.nego_cli.specs.Loading.{IsNoCertificate, IsNoSchedule}
+use Rattle.nego_cli.proofs.Loaded.{diagrams, spelled_diagram, spelled_names}
 use Rattle.nego_cli.proofs.Certificates.{certificates}
+use Rattle.nego_cli.proofs.Schedules.{schedules}
+use Rattle.nego_cli.proofs.Playing.{started_once, started_within, started_named, plays_or_not, refused_once, refused_named}
+use Rattle.nego_cli.proofs.Endings.{EndsOnce, EndsWithin, Names, Tells, none_more, tells_once, tells_within, tells_named, here_once, here_within, over_once, over_within, over_named, over_telling}
 use Rattle.nego_cli.proofs.Undetermined.{undetermined_apart, undetermined_once, undetermined_named}
 use Rattle.nego_cli.proofs.StartLaws.{can_or_cannot, cannot_once, cannot_named}
-
--- ---- ways to end
-
--- Behind some parts and behind these and more the end is one, so that there are no more.
-abbrev EndsOnce : (List Read → Turn → Type 0) → Type 0
-EndsOnce ends = (reads more : List Read) (turn other : Turn) → ends reads turn → ends (reads ++ more) other → (more ≡ []) × (turn ≡ other)
-
--- It ends behind so many parts at most.
-abbrev EndsWithin : ℕ → (List Read → Turn → Type 0) → Type 0
-EndsWithin most ends = (reads : List Read) (turn : Turn) → ends reads turn → length reads ≤ most
-
--- What it names in a refusal is there.
-abbrev Names : (List Read → Turn → Type 0) → Type 0
-Names ends = (reads : List Read) (why : Refusal) → ends reads (Refuses why) → IsNamed why
-
--- A text is told with a status of texts.
-abbrev Tells : (List Read → Status → List ℕ → Type 0) → Type 0
-Tells tells = (reads : List Read) (status : Status) (text : List ℕ) → tells reads status text → IsTelling status
-
--- what ends behind nothing more
-none_more : (reads more : List Read) → reads ≡ [] → reads ++ more ≡ [] → more ≡ []
-none_more reads more none all = sym (ap (λ r. r ++ more) none) ∙ all
-
--- ---- a command that reads nothing more
-
-here_once : (can : Type 0) (cannot : Refusal → Type 0) → ((why : Refusal) → can → cannot why → ⊥) → ((why other : Refusal) → cannot why → cannot other → why ≡ other) → EndsOnce (TurnHere can cannot)
-here_once can cannot apart one reads more TellsText TellsText h k = (none_more reads more h.1 k.1, refl)
-here_once can cannot apart one reads more TellsText (Refuses why) h k = absurd (apart why h.0 k.0)
-here_once can cannot apart one reads more (Refuses why) TellsText h k = absurd (apart why k.0 h.0)
-here_once can cannot apart one reads more (Refuses why) (Refuses other) h k = (none_more reads more h.1 k.1, ap Refuses (one why other h.0 k.0))
-
-here_within : (can : Type 0) (cannot : Refusal → Type 0) → EndsWithin 0 (TurnHere can cannot)
-here_within can cannot reads TellsText h = let count = ap length h.1 in omega (arith, count)
-here_within can cannot reads (Refuses why) h = let count = ap length h.1 in omega (arith, count)
-
--- ---- a command over a part
-
-over_once : {X : Type 0} (spells : List ℕ → X → Type 0) (is_none : Read → Refusal → Type 0) (does : X → List Read → Turn → Type 0) → IsKind spells is_none →
-    ((text : List ℕ) (x : X) → spells text x → EndsOnce (does x)) → EndsOnce (TurnOver spells is_none does)
-over_once spells is_none does kind once [] more turn other h k = absurd h
-over_once spells is_none does kind once (read ∷ reads) more turn other (inl (why, is, none, bad)) (inl (why', is', none', bad')) =
-    (none_more reads more none none', is ∙ (ap Refuses (kind.one_reason read why why' bad bad') ∙ sym is'))
-over_once spells is_none does kind once (read ∷ reads) more turn other (inl (why, is, none, bad)) (inr (text, x, at, spelled, done)) =
-    absurd (kind.not_both text why x (subst (λ r. is_none r why) at bad) spelled)
-over_once spells is_none does kind once (read ∷ reads) more turn other (inr (text, x, at, spelled, done)) (inl (why, is, none, bad)) =
-    absurd (kind.not_both text why x (subst (λ r. is_none r why) at bad) spelled)
-over_once spells is_none does kind once (read ∷ reads) more turn other (inr (text, x, at, spelled, done)) (inr (text', y, at', spelled', done')) =
-    let here : ReadPart text ≡ ReadPart text' = sym at ∙ at' in
-    let part : text ≡ text' = cc in
-    let same : y ≡ x = kind.one_value text y x (subst (λ t. spells t y) (sym part) spelled') spelled in
-    once text x spelled reads more turn other done (subst (λ z. does z (reads ++ more) other) same done')
-
-over_within : {X : Type 0} (spells : List ℕ → X → Type 0) (is_none : Read → Refusal → Type 0) (does : X → List Read → Turn → Type 0) (most : ℕ) →
-    ((x : X) → EndsWithin most (does x)) → EndsWithin (suc most) (TurnOver spells is_none does)
-over_within spells is_none does most within [] turn h = absurd h
-over_within spells is_none does most within (read ∷ reads) turn (inl (why, is, none, bad)) = let count = ap length none in omega (arith, count)
-over_within spells is_none does most within (read ∷ reads) turn (inr (text, x, at, spelled, done)) = let count = within x reads turn done in omega (arith, count)
-
-over_named : {X : Type 0} (spells : List ℕ → X → Type 0) (is_none : Read → Refusal → Type 0) (does : X → List Read → Turn → Type 0) → IsKind spells is_none →
-    ((x : X) → Names (does x)) → Names (TurnOver spells is_none does)
-over_named spells is_none does kind named [] why h = absurd h
-over_named spells is_none does kind named (read ∷ reads) why (inl (other, is, none, bad)) =
-    let same : why ≡ other = cc in
-    subst IsNamed (sym same) (kind.named read other bad)
-over_named spells is_none does kind named (read ∷ reads) why (inr (text, x, is, spelled, done)) = named x reads why done
-
-over_telling : {X : Type 0} (spells : List ℕ → X → Type 0) (tells : X → List Read → Status → List ℕ → Type 0) → ((x : X) → Tells (tells x)) → Tells (TextOver spells tells)
-over_telling spells tells telling [] status text h = absurd h
-over_telling spells tells telling (ReadPart part ∷ reads) status text (x, spelled, told) = telling x reads status text told
-over_telling spells tells telling (ReadTooLong ∷ reads) status text h = absurd h
-over_telling spells tells telling (ReadNoEnd line ∷ reads) status text h = absurd h
 
 -- ---- each command
 
@@ -116,15 +52,6 @@ record IsCommand (command : Command) : Type 0 where
   within : (reads : List Read) (turn : Turn) → TurnOf command reads turn → (most : ℕ) × (parts_of command ≡ Some most) × (length reads ≤ most)
   named : Names (TurnOf command)
   telling : Tells (TextOf command)
-
-check_once : (d : PlainDiagram) → EndsOnce (CheckTurn d)
-check_once d reads more turn other h k = (none_more reads more h.1 k.1, h.0 ∙ sym k.0)
-
-check_within : (d : PlainDiagram) → EndsWithin 0 (CheckTurn d)
-check_within d reads turn h = let count = ap length h.1 in omega (arith, count)
-
-check_named : (d : PlainDiagram) → Names (CheckTurn d)
-check_named d reads why h = let never : Refuses why ≡ TellsText = h.0 in cc
 
 check_telling : (d : PlainDiagram) → Tells (CheckText d)
 check_telling d reads status text h = subst IsTelling (sym h.0) tt
@@ -160,15 +87,6 @@ determined_named d does named reads why (inl (other, is, none, h)) =
     subst IsNamed (sym same) (undetermined_named d other h)
 determined_named d does named reads why (inr (determined, done)) = named reads why done
 
-certificate_ends_once : (cert : Cert) → EndsOnce (CertificateTurn cert)
-certificate_ends_once cert reads more turn other h k = (none_more reads more h.1 k.1, h.0 ∙ sym k.0)
-
-certificate_ends_within : (cert : Cert) → EndsWithin 0 (CertificateTurn cert)
-certificate_ends_within cert reads turn h = let count = ap length h.1 in omega (arith, count)
-
-certificate_ends_named : (cert : Cert) → Names (CertificateTurn cert)
-certificate_ends_named cert reads why h = let never : Refuses why ≡ TellsText = h.0 in cc
-
 replay_telling : (verdict : PlainVerdict) → IsTelling (replay_status verdict)
 replay_telling (Accepted summary) = tt
 replay_telling (Rejected line why) = tt
@@ -176,6 +94,29 @@ replay_telling (NotOne left) = tt
 
 certificate_telling : (d : PlainDiagram) (cert : Cert) → Tells (λ reads status text. IsReplayText d cert status text)
 certificate_telling d cert reads status text h = subst IsTelling (sym h.status_is) (replay_telling h.verdict)
+
+-- ---- a start, and a schedule behind the diagram
+
+abbrev Played : PlainDiagram → ℕ → List Read → Turn → Type 0
+Played d start = TurnOver (SpellsSchedule d) (IsNoSchedule d) (ScheduleTurn d start)
+
+played_once : (d : PlainDiagram) (start : ℕ) → HasNames d → EndsOnce (Played d start)
+played_once d start names =
+    over_once (SpellsSchedule d) (IsNoSchedule d) (ScheduleTurn d start) (schedules d names)
+    (λ behind lines spelled. here_once (CanPlay d start lines) (CannotPlay d start lines) (plays_or_not d start lines) (refused_once d start lines))
+
+played_within : (d : PlainDiagram) (start : ℕ) → EndsWithin 1 (Played d start)
+played_within d start = over_within (SpellsSchedule d) (IsNoSchedule d) (ScheduleTurn d start) 0 (λ lines. here_within (CanPlay d start lines) (CannotPlay d start lines))
+
+played_named : (d : PlainDiagram) (start : ℕ) → IsDiagram d → HasNames d → Names (Played d start)
+played_named d start diagram names =
+    over_named (SpellsSchedule d) (IsNoSchedule d) (ScheduleTurn d start) (schedules d names) (λ behind lines spelled reads why h. refused_named d start lines diagram why h.0)
+
+played_telling : (d : PlainDiagram) (start : ℕ) (lines : List (ℕ × PlainEvent)) → Tells (ScheduleText d start lines)
+played_telling d start lines reads status text h = subst IsTelling (sym h.status_is) tt
+
+run_telling : (values : List ℕ) (d : PlainDiagram) → Tells (RunText values d)
+run_telling values d reads status text (start, starts, told) = over_telling (SpellsSchedule d) (ScheduleText d start) (played_telling d start) reads status text told
 
 -- a command that isn't built
 unbuilt : (command : Command) → ((reads : List Read) (turn : Turn) → TurnOf command reads turn → ⊥) → ((reads : List Read) (status : Status) (text : List ℕ) → TextOf command reads status text → ⊥) → IsCommand command
@@ -189,42 +130,55 @@ unbuilt command no_turn no_text = record {
 -- all commands
 known : (command : Command) → IsCommand command
 known commands.Check = record {
-  once = over_once SpellsDiagram IsNoDiagram CheckTurn diagrams (λ text d spelled. check_once d);
-  within = λ reads turn h. (1, refl, over_within SpellsDiagram IsNoDiagram CheckTurn 0 check_within reads turn h);
-  named = over_named SpellsDiagram IsNoDiagram CheckTurn diagrams check_named;
+  once = over_once SpellsDiagram IsNoDiagram CheckTurn diagrams (λ text d spelled. tells_once);
+  within = λ reads turn h. (1, refl, over_within SpellsDiagram IsNoDiagram CheckTurn 0 (λ d. tells_within) reads turn h);
+  named = over_named SpellsDiagram IsNoDiagram CheckTurn diagrams (λ text d spelled. tells_named);
   telling = over_telling IsDiagramOf CheckText check_telling;
 }
 known commands.Reduce = record {
   once = over_once SpellsDiagram IsNoDiagram ReduceTurn diagrams
       (λ text d spelled. here_once (IsDeterministic (negotiation_of d)) (IsUndetermined d) (λ why. undetermined_apart d why (spelled_diagram text d spelled)) (undetermined_once d));
   within = λ reads turn h. (1, refl, over_within SpellsDiagram IsNoDiagram ReduceTurn 0 (λ d. here_within (IsDeterministic (negotiation_of d)) (IsUndetermined d)) reads turn h);
-  named = over_named SpellsDiagram IsNoDiagram ReduceTurn diagrams (λ d reads why h. undetermined_named d why h.0);
+  named = over_named SpellsDiagram IsNoDiagram ReduceTurn diagrams (λ text d spelled reads why h. undetermined_named d why h.0);
   telling = over_telling IsDiagramOf ReduceText reduce_telling;
 }
 known commands.Replay = record {
   once = over_once SpellsDiagram IsNoDiagram ReplayTurn diagrams
       (λ text d spelled. determined_once d (TurnOver SpellsCertificate IsNoCertificate CertificateTurn) (spelled_diagram text d spelled)
-      (over_once SpellsCertificate IsNoCertificate CertificateTurn certificates (λ behind cert spelled. certificate_ends_once cert)));
+      (over_once SpellsCertificate IsNoCertificate CertificateTurn certificates (λ behind cert spelled. tells_once)));
   within = λ reads turn h. (
     2,
     refl,
     over_within SpellsDiagram IsNoDiagram ReplayTurn 1
-        (λ d. determined_within d (TurnOver SpellsCertificate IsNoCertificate CertificateTurn) 1 (over_within SpellsCertificate IsNoCertificate CertificateTurn 0 certificate_ends_within)) reads turn h,
+        (λ d. determined_within d (TurnOver SpellsCertificate IsNoCertificate CertificateTurn) 1 (over_within SpellsCertificate IsNoCertificate CertificateTurn 0 (λ cert. tells_within))) reads turn h,
   );
   named = over_named SpellsDiagram IsNoDiagram ReplayTurn diagrams
-      (λ d. determined_named d (TurnOver SpellsCertificate IsNoCertificate CertificateTurn) (over_named SpellsCertificate IsNoCertificate CertificateTurn certificates certificate_ends_named));
+      (λ text d spelled. determined_named d (TurnOver SpellsCertificate IsNoCertificate CertificateTurn)
+      (over_named SpellsCertificate IsNoCertificate CertificateTurn certificates (λ behind cert spelled. tells_named)));
   telling = over_telling IsDiagramOf ReplayText (λ d. over_telling SpellsCertificate (λ cert reads status text. IsReplayText d cert status text) (certificate_telling d));
 }
 known (commands.Ask values) = record {
   once = over_once SpellsDiagram IsNoDiagram (AskTurn values) diagrams
       (λ text d spelled. here_once (CanStart d values) (CannotStart d values) (can_or_cannot d values (spelled_diagram text d spelled)) (cannot_once d values (spelled_diagram text d spelled)));
   within = λ reads turn h. (1, refl, over_within SpellsDiagram IsNoDiagram (AskTurn values) 0 (λ d. here_within (CanStart d values) (CannotStart d values)) reads turn h);
-  named = over_named SpellsDiagram IsNoDiagram (AskTurn values) diagrams (λ d reads why h. cannot_named d values why h.0);
+  named = over_named SpellsDiagram IsNoDiagram (AskTurn values) diagrams (λ text d spelled reads why h. cannot_named d values why h.0);
   telling = over_telling IsDiagramOf (AskText values) (ask_telling values);
 }
-known (commands.Run starts) = unbuilt (commands.Run starts) (λ reads turn h. h) (λ reads status text h. h)
+known (commands.Run values) = record {
+  once = over_once SpellsDiagram IsNoDiagram (RunTurn values) diagrams
+      (λ text d spelled. started_once d values (Played d) (spelled_diagram text d spelled) (λ start. played_once d start (spelled_names text d spelled)));
+  within = λ reads turn h. (2, refl, over_within SpellsDiagram IsNoDiagram (RunTurn values) 1 (λ d. started_within d values (Played d) 1 (played_within d)) reads turn h);
+  named = over_named SpellsDiagram IsNoDiagram (RunTurn values) diagrams
+      (λ text d spelled. started_named d values (Played d) (λ start. played_named d start (spelled_diagram text d spelled) (spelled_names text d spelled)));
+  telling = over_telling IsDiagramOf (RunText values) (run_telling values);
+}
 known (commands.Node seed turns starts) = unbuilt (commands.Node seed turns starts) (λ reads turn h. h) (λ reads status text h. h)
-known (commands.Make n) = unbuilt (commands.Make n) (λ reads turn h. h) (λ reads status text h. h)
+known (commands.Make n) = record {
+  once = tells_once;
+  within = λ reads turn h. (0, refl, tells_within reads turn h);
+  named = tells_named;
+  telling = λ reads status text h. subst IsTelling (sym h.0) tt;
+}
 
 -- behind how many parts a command ends
 pub parts_within : (command : Command) (reads : List Read) (turn : Turn) → TurnOf command reads turn → (most : ℕ) × (parts_of command ≡ Some most) × (length reads ≤ most)

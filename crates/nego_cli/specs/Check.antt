@@ -1,5 +1,5 @@
 -- What `check` does with a diagram.
-use Rattle.std.specs.Prelude.{◌≡◌, ℕ, List, [], Option, MatchOption}
+use Rattle.std.specs.Prelude.{◌≡◌, ℕ, List, Option, MatchOption}
 use Rattle.nego_model.specs.Negotiation.{IsDeterministic}
 use Rattle.nego_model.specs.Diagram.{PlainDiagram, negotiation_of}
 use Rattle.nego_model.specs.Undetermined.{IsFirstUndetermined}
@@ -8,12 +8,12 @@ use Rattle.nego_shape.specs.declared.answer.Order.{Order}
 use Rattle.nego_cli.specs.declared.status.Status.{Status}
 use Rattle.nego_cli.specs.declared.status.Status.TheVariants.{Done}
 use Rattle.nego_cli.specs.Parts.{Read}
-use Rattle.nego_cli.specs.Turn.{Turn, TellsText}
+use Rattle.nego_cli.specs.Turn.{Turn, OnlyTells}
 use Rattle.nego_cli.specs.FormText.{form_text}
 
 -- It takes every diagram.
 abbrev pub CheckTurn : PlainDiagram → List Read → Turn → Type 0
-CheckTurn d reads turn = (turn ≡ TellsText) × (reads ≡ [])
+CheckTurn d reads turn = OnlyTells reads turn
 
 -- The text tells the form of the diagram: its counts, whether it is deterministic, else where it first isn't, and the
 -- order of its atoms, else the cycle that is found.

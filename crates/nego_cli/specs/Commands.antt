@@ -11,6 +11,8 @@ use Rattle.nego_cli.specs.Check.{CheckTurn, CheckText}
 use Rattle.nego_cli.specs.Reduce.{ReduceTurn, ReduceText}
 use Rattle.nego_cli.specs.Replay.{ReplayTurn, ReplayText}
 use Rattle.nego_cli.specs.Ask.{AskTurn, AskText}
+use Rattle.nego_cli.specs.Make.{MakeTurn, MakeText}
+use Rattle.nego_cli.specs.Run.{RunTurn, RunText}
 
 -- how many parts of the input a command reads at most, where it is built
 abbrev pub parts_of : Command → Option ℕ
@@ -18,6 +20,8 @@ parts_of commands.Check = Some 1
 parts_of commands.Reduce = Some 1
 parts_of commands.Replay = Some 2
 parts_of (commands.Ask values) = Some 1
+parts_of (commands.Run values) = Some 2
+parts_of (commands.Make n) = Some 0
 parts_of _ = None
 
 -- how a command ends behind what it has read
@@ -26,6 +30,8 @@ TurnOf commands.Check reads turn = TurnOverDiagram CheckTurn reads turn
 TurnOf commands.Reduce reads turn = TurnOverDiagram ReduceTurn reads turn
 TurnOf commands.Replay reads turn = TurnOverDiagram ReplayTurn reads turn
 TurnOf (commands.Ask values) reads turn = TurnOverDiagram (AskTurn values) reads turn
+TurnOf (commands.Run values) reads turn = TurnOverDiagram (RunTurn values) reads turn
+TurnOf (commands.Make n) reads turn = MakeTurn reads turn
 TurnOf _ reads turn = ⊥
 
 -- which text a command tells of what it has read, and with which status
@@ -34,6 +40,8 @@ TextOf commands.Check reads status text = TextOverDiagram CheckText reads status
 TextOf commands.Reduce reads status text = TextOverDiagram ReduceText reads status text
 TextOf commands.Replay reads status text = TextOverDiagram ReplayText reads status text
 TextOf (commands.Ask values) reads status text = TextOverDiagram (AskText values) reads status text
+TextOf (commands.Run values) reads status text = TextOverDiagram (RunText values) reads status text
+TextOf (commands.Make n) reads status text = MakeText n reads status text
 TextOf _ reads status text = ⊥
 
 -- a command, where it is built

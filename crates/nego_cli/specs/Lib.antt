@@ -10,6 +10,8 @@ pub mod Effect
 pub mod FormText
 pub mod Headline
 pub mod Loading
+pub mod Make
+pub mod MakeLaws
 pub mod Parts
 pub mod Reduce
 pub mod Reduction
@@ -17,6 +19,8 @@ pub mod Refusals
 pub mod Replay
 pub mod ReplayHeadline
 pub mod ReplayLaws
+pub mod Run
+pub mod RunHeadline
 pub mod Starts
 pub mod Status
 pub mod Texts

@@ -1,15 +1,18 @@
--- Diagrams and certificates that are read of an input.
-use Rattle.std.specs.Prelude.{◌≡◌, ◌⊎◌, ⊤, ℕ, List, [], ◌∷◌, Some, None}
+-- Diagrams, certificates and schedules that are read of an input.
+use Rattle.std.specs.Prelude.{◌≡◌, ◌⊎◌, ⊤, ℕ, List, [], ◌∷◌}
 use Rattle.nego_base.specs.declared.fault.Fault.{Fault}
 use Rattle.nego_model.specs.Diagram.{PlainDiagram, IsDiagram}
 use Rattle.nego_reader.specs.declared.parsed.Parsed.{Parsed}
+use Rattle.nego_reader.specs.Content.{content_of}
 use Rattle.nego_reader.specs.Spelling.{Spells}
 use Rattle.nego_reader.specs.Table.{IsFirstFault}
 use Rattle.nego_cert.specs.Table as certificates
+use Rattle.world_text.specs.ScheduleTable as schedules
 use Rattle.nego_shape.specs.declared.fault.ShapeFault.{ShapeFault}
-use Rattle.nego_shape.specs.Faults.{shape_fault}
+use Rattle.nego_shape.specs.Conditions.{HasShape}
+use Rattle.nego_shape.specs.FirstFault as shapes
 use Rattle.nego_cli.specs.declared.failure.PartName.{PartName}
-use Rattle.nego_cli.specs.declared.failure.PartName.TheVariants.{Diagram, Certificate}
+use Rattle.nego_cli.specs.declared.failure.PartName.TheVariants.{Diagram, Certificate, Schedule}
 use Rattle.nego_cli.specs.declared.failure.Refusal.{Refusal}
 use Rattle.nego_cli.specs.declared.failure.Refusal.TheVariants.{TooLong, NoEnd, Off, Misshapen}
 use Rattle.nego_cli.specs.declared.failure.Failure.{Failure}
@@ -18,11 +21,11 @@ use Rattle.nego_cli.specs.Effect.{Effect, HasFaulted, Stayed}
 use Rattle.nego_cli.specs.Parts.{Read, ReadPart, ReadTooLong, ReadNoEnd, HasRead, TookParts}
 use Rattle.nego_cli.specs.Refusals.{diagram_of}
 
--- The text spells a value without a fault of shape, and this is its diagram.
+-- The text spells a value that has the shape of a diagram, and this is its diagram.
 pub record SpellsDiagram (text : List ℕ) (d : PlainDiagram) : Type 0 where
   pub value : Parsed
   pub spelled : Spells text value
-  pub shaped : shape_fault value ≡ None
+  pub shaped : HasShape (content_of value)
   pub is : d ≡ diagram_of value
 
 -- The text is off its grammar, first at this fault, and spells nothing.
@@ -35,7 +38,7 @@ IsOff text why = (fault : Fault) × (why ≡ Off Diagram fault) × IsOffAt text 
 
 -- The value that the text spells has a fault of shape, of which this is the first.
 abbrev pub IsMisshapen : List ℕ → Refusal → Type 0
-IsMisshapen text why = (p : Parsed) × (fault : ShapeFault) × (why ≡ Misshapen p fault) × Spells text p × (shape_fault p ≡ Some fault)
+IsMisshapen text why = (p : Parsed) × (fault : ShapeFault) × (why ≡ Misshapen p fault) × Spells text p × shapes.IsFirstFault p fault
 
 -- Why the text has no diagram: it is off its grammar, or what it spells has a fault of shape.
 abbrev pub HasNoDiagram : List ℕ → Refusal → Type 0
@@ -59,6 +62,14 @@ HasNoCertificate text why = (fault : Fault) × (why ≡ Off Certificate fault) �
 -- What was read where a certificate was wanted is none, for this reason.
 abbrev pub IsNoCertificate : Read → Refusal → Type 0
 IsNoCertificate = IsNoPart Certificate HasNoCertificate
+
+-- The text is off the grammar of the diagram's schedules, first at this fault.
+abbrev pub HasNoSchedule : PlainDiagram → List ℕ → Refusal → Type 0
+HasNoSchedule d text why = (fault : Fault) × (why ≡ Off Schedule fault) × schedules.IsFirstFault d text fault
+
+-- What was read where a schedule was wanted is none, for this reason.
+abbrev pub IsNoSchedule : PlainDiagram → Read → Refusal → Type 0
+IsNoSchedule d = IsNoPart Schedule (HasNoSchedule d)
 
 -- The text spells this diagram, which is one.
 abbrev pub IsDiagramOf : List ℕ → PlainDiagram → Type 0
@@ -92,13 +103,13 @@ IsUnspelled is_wrong text (failures.Refused why) = is_wrong text why
 IsUnspelled is_wrong text failures.Memory = ⊤
 IsUnspelled is_wrong text _ = ⊥
 
--- The value has no fault of shape, and this is its diagram, which is one.
+-- The value has the shape of a diagram, and this is its diagram, which is one.
 abbrev pub IsShapeOf : Parsed → PlainDiagram → Type 0
-IsShapeOf p d = (shape_fault p ≡ None) × (d ≡ diagram_of p) × IsDiagram d
+IsShapeOf p d = HasShape (content_of p) × (d ≡ diagram_of p) × IsDiagram d
 
 -- Why there is no diagram of the value: it has this first fault of shape, or memory was wanted.
 abbrev pub HasNoShape : Parsed → Failure → Type 0
-HasNoShape p (failures.Refused (Misshapen q fault)) = (q ≡ p) × (shape_fault p ≡ Some fault)
+HasNoShape p (failures.Refused (Misshapen q fault)) = (q ≡ p) × shapes.IsFirstFault p fault
 HasNoShape p (failures.Refused _) = ⊥
 HasNoShape p failures.Memory = ⊤
 HasNoShape p _ = ⊥

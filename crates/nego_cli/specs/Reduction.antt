@@ -1,6 +1,7 @@
 -- What reduction makes of a diagram, with the verdict on it.
-use Rattle.std.specs.Prelude.{◌≡◌, ⊤}
+use Rattle.std.specs.Prelude.{◌≡◌, ⊤, List}
 use Rattle.nego_model.specs.Diagram.{PlainDiagram}
+use Rattle.nego_model.specs.Expression.{PlainNode}
 use Rattle.nego_expr.specs.Work.{PlainWork}
 use Rattle.nego_expr.specs.Fresh.{fresh_work}
 use Rattle.nego_expr.specs.StandsFor.{IsFresh}
@@ -26,6 +27,12 @@ abbrev pub Leaves : Reduced → PlainWork → Type 0
 Leaves (One summary uses) left = plain_summary summary ≡ summary_of_work left
 Leaves (Stuck work uses) left = work.plain ≡ left
 Leaves (NodeLimit work uses) left = work.plain ≡ left
+
+-- the nodes that reduction leaves
+abbrev pub nodes_of : Reduced → List PlainNode
+nodes_of (One summary uses) = summary.nodes.nodes
+nodes_of (Stuck work uses) = work.plain.nodes
+nodes_of (NodeLimit work uses) = work.plain.nodes
 
 -- The diagram is deterministic, reduction made this of its fresh work, and this is the verdict on the diagram.
 pub record IsJudged (d : PlainDiagram) (r : Reduced) (verdict : Verdict) : Type 0 where

@@ -13,6 +13,10 @@ use Rattle.nego_shape.specs.declared.fault.ShapeKind.{ShapeKind}
 use Rattle.nego_shape.specs.declared.fault.ShapeKind.TheVariants as shapes
 use Rattle.nego_shape.specs.Answer.{AreJointIn}
 use Rattle.nego_shape.specs.Naming.{diagram_in}
+use Rattle.agent_core.specs.Deciding.{Finished, NotLeader, Waits}
+use Rattle.agent_core.specs.Worlds as worlds
+use Rattle.nego_world.specs.Events.{RefusalNamesAgent}
+use Rattle.nego_world.specs.Stepping.{plain_why}
 use Rattle.nego_cli.specs.declared.failure.PartName.{PartName}
 use Rattle.nego_cli.specs.declared.failure.PartName.TheVariants as parts
 use Rattle.nego_cli.specs.declared.failure.StartFault.{StartFault}
@@ -79,6 +83,7 @@ shape_words d (shapes.NotTotal o e) rest = codes "NotTotal " ++ outcome_words d 
 abbrev pub part_name : PartName → List ℕ
 part_name parts.Diagram = codes "diagram"
 part_name parts.Certificate = codes "certificate"
+part_name parts.Schedule = codes "schedule"
 
 -- a part of an input and a line of it
 abbrev pub place_words : PartName → ℕ → List ℕ → List ℕ
@@ -93,6 +98,17 @@ abbrev pub start_fault_words : PlainDiagram → StartFault → List ℕ → List
 start_fault_words d (StartCount given) rest = codes "StartCount " ++ (decimal given ++ rest)
 start_fault_words d (StartTooLarge a) rest = codes "StartTooLarge " ++ (agent_name d a.0 ++ rest)
 
+-- why an event is refused
+abbrev pub event_refusal_words : PlainDiagram → worlds.Refusal → List ℕ → List ℕ
+event_refusal_words d (worlds.NoMessage i) rest = codes "NoMessage " ++ (decimal i ++ rest)
+event_refusal_words d (worlds.NoDecision Finished) rest = codes "Finished" ++ rest
+event_refusal_words d (worlds.NoDecision NotLeader) rest = codes "NotLeader" ++ rest
+event_refusal_words d (worlds.NoDecision (Waits p)) rest = codes "Waits " ++ (agent_name d p ++ rest)
+
+-- the line of a schedule's event that is refused, and why
+abbrev pub step_refusal_words : PlainDiagram → ℕ → worlds.Refusal → List ℕ → List ℕ
+step_refusal_words d line why rest = place_words parts.Schedule line (event_refusal_words d why rest)
+
 -- what is refused, and why
 abbrev pub refusal_words : Refusal → List ℕ → List ℕ
 refusal_words (refusals.TooLong part) rest = part_name part ++ (codes " TooLong" ++ rest)
@@ -101,6 +117,7 @@ refusal_words (refusals.Off part fault) rest = fault_words part fault rest
 refusal_words (refusals.Misshapen p fault) rest = place_words parts.Diagram fault.line (shape_words (diagram_of p) fault.kind rest)
 refusal_words (refusals.Undetermined d o a) rest = codes "NotDeterministic " ++ choice_words d o.0 a.0 rest
 refusal_words (refusals.NoStart d fault) rest = start_fault_words d fault rest
+refusal_words (refusals.NoStep d line why) rest = step_refusal_words d line (plain_why why) rest
 
 -- the line of a refusal
 abbrev pub refusal_line : Refusal → List ℕ
@@ -116,4 +133,5 @@ abbrev pub IsNamed : Refusal → Type 0
 IsNamed (refusals.Misshapen p fault) = AreJointIn p fault.kind
 IsNamed (refusals.Undetermined d o a) = (o.0 < length d.outcomes) × (a.0 < length d.agents)
 IsNamed (refusals.NoStart d fault) = IsAgentNamed d fault
+IsNamed (refusals.NoStep d line why) = RefusalNamesAgent d (plain_why why)
 IsNamed _ = ⊤

@@ -13,7 +13,7 @@ use Rattle.nego_cli.specs.declared.status.Status.TheVariants as statuses
 use Rattle.nego_cli.specs.declared.failure.Refusal.{Refusal}
 use Rattle.nego_cli.specs.Parts.{Read}
 use Rattle.nego_cli.specs.Reduce.{IsUndetermined}
-use Rattle.nego_cli.specs.Turn.{Turn, TellsText, Refuses, TurnOver, TextOver}
+use Rattle.nego_cli.specs.Turn.{Turn, Refuses, OnlyTells, TurnOver, TextOver}
 use Rattle.nego_cli.specs.Loading.{IsNoCertificate}
 
 -- A command over a diagram that must be deterministic refuses one that isn't, and else does this with what it reads behind
@@ -23,7 +23,7 @@ TurnWhereDetermined d does reads turn = ((why : Refusal) × (turn ≡ Refuses wh
 
 -- It takes each certificate.
 abbrev pub CertificateTurn : Cert → List Read → Turn → Type 0
-CertificateTurn cert reads turn = (turn ≡ TellsText) × (reads ≡ [])
+CertificateTurn cert reads turn = OnlyTells reads turn
 
 -- It takes each deterministic diagram, and reads a certificate behind it.
 abbrev pub ReplayTurn : PlainDiagram → List Read → Turn → Type 0

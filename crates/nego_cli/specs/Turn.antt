@@ -16,6 +16,10 @@ abbrev pub TurnHere : Type 0 → (Refusal → Type 0) → List Read → Turn →
 TurnHere can cannot reads TellsText = can × (reads ≡ [])
 TurnHere can cannot reads (Refuses why) = cannot why × (reads ≡ [])
 
+-- A command that reads nothing more tells a text, whatever it was given.
+abbrev pub OnlyTells : List Read → Turn → Type 0
+OnlyTells reads turn = (turn ≡ TellsText) × (reads ≡ [])
+
 -- A command over a part of some kind refuses what is no such part, and else does this with the value that the part spells
 -- and with what it reads behind it.
 abbrev pub TurnOver : {X : Type 0} → (List ℕ → X → Type 0) → (Read → Refusal → Type 0) → (X → List Read → Turn → Type 0) → List Read → Turn → Type 0

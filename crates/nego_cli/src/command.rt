@@ -7,7 +7,7 @@ use nego_base::Seq;
 use std::alloc::{AllocError, AllocFailed};
 use thiserror::Error;
 
-/// A command with its numbers. `Check`, `Reduce`, `Replay` and `Ask` are built; the others are read as commands, and the program answers
+/// A command with its numbers. All but `Node` are built; that one is read as a command, and the program answers
 /// them as words that are no command. Start values are 1 to 16 numbers, each at most 999,999; whether they are as many as
 /// the agents, and below their sizes, only a diagram tells.
 #[derive(Debug, Drop)]

@@ -5,14 +5,17 @@ ghost use Rattle.nego_cli.specs.Effect.{effect};
 ghost use Rattle.nego_cli.specs.Commands.{parts_of, asked, most_parts};
 ghost use Rattle.nego_cli.specs.Answer.{IsFound};
 ghost use Rattle.nego_cli.specs.Dispatch.{IsAnswer};
+ghost use Rattle.nego_cli.specs.Make.{HasSize};
 
 use crate::answer::Answer;
 use crate::ask::ask;
 use crate::check::check;
 use crate::failure::Failure;
 use crate::load::load;
+use crate::make::make;
 use crate::reduce::reduce;
 use crate::replay::replay;
+use crate::run::run;
 use crate::{Command, WordsAnswer, words_of};
 use nego_base::{Steps, Text};
 use nego_io::Source;
@@ -26,6 +29,7 @@ fn answer<S: Source, C: Ledger>(
     source: &mut S,
     steps: &mut Steps<C>,
 ) -> Result<Answer, Failure>
+    requires { HasSize command.now }
     ensures found { IsAnswer command.now (effect S.left S.faults source.old source.new) result }
     ensures untouched { most_parts (Some command.now) ≡ 0 → source.new ≡ source.old }
     ensures later { S.faults source.old ≤ S.faults source.new }
@@ -38,6 +42,11 @@ fn answer<S: Source, C: Ledger>(
             replay(alloc, d, source)
         }
         Command::Ask(values) => ask(alloc, load(alloc, source)?, values.as_slice(), steps),
+        Command::Run(values) => {
+            let d = load(alloc, source)?;
+            run(alloc, d, values.as_slice(), source)
+        }
+        Command::Make(n) => make(alloc, *n, steps),
         _ => Err(Failure::Words),
     }
 }

@@ -7,6 +7,7 @@ use nego_base::{AgentId, Fault, Memory, OutcomeId};
 use nego_model::Diagram;
 use nego_reader::Parsed;
 use nego_shape::ShapeFault;
+use nego_world::StepWhy;
 
 /// A part of an input, by what it holds.
 #[derive(Clone, Copy, Debug, PartialEq, Eq)]
@@ -15,6 +16,8 @@ pub enum PartName {
     Diagram,
     /// A certificate.
     Certificate,
+    /// A schedule.
+    Schedule,
 }
 
 /// Why start values are no start of the agents of a diagram.
@@ -41,6 +44,8 @@ pub enum Refusal {
     Undetermined(Diagram, OutcomeId, AgentId),
     /// The start values are no start of the agents of this diagram.
     NoStart(Diagram, StartFault),
+    /// The event on this line of a schedule is the first that is refused, for this.
+    NoStep(Diagram, u32, StepWhy),
 }
 
 /// Why there is no text.

@@ -2,13 +2,16 @@
 
 ghost use Rattle.std.specs.Prelude.{◌≡◌, IfOk, OnOk};
 ghost use Rattle.nego_base.specs.Appending.{Appends};
-ghost use Rattle.nego_cli.specs.Refusals.{IsAgentNamed, IsNamed, fault_words, kind_name, part_name, place_words, refusal_words, refusal_line, start_fault_words};
+ghost use Rattle.nego_world.specs.Events.{RefusalNamesAgent};
+ghost use Rattle.nego_world.specs.Stepping.{plain_why};
+ghost use Rattle.nego_cli.specs.Refusals.{IsAgentNamed, IsNamed, event_refusal_words, fault_words, kind_name, part_name, place_words, refusal_words, refusal_line, start_fault_words};
 
 use crate::failure::{PartName, Refusal, StartFault};
 use crate::names::add_choice;
 use crate::shape_text::add_kind;
 use nego_base::{Fault, FaultKind, Memory, Text};
 use nego_model::Diagram;
+use nego_world::StepWhy;
 use std::alloc::Global;
 
 /// The line of the refusal.
@@ -46,6 +49,29 @@ fn add_refusal(alloc: Global, text: &mut Text, why: &Refusal) -> Result<(), Memo
             add_choice(text, d, *o, *a)
         }
         Refusal::NoStart(d, fault) => add_start_fault(text, d, *fault),
+        Refusal::NoStep(d, line, why) => {
+            add_place(text, PartName::Schedule, *line)?;
+            add_event_refusal(text, d, *why)
+        }
+    }
+}
+
+/// Adds why an event is refused.
+fn add_event_refusal(text: &mut Text, d: &Diagram, why: StepWhy) -> Result<(), Memory>
+    requires { RefusalNamesAgent d.now (plain_why why) }
+    ensures { OnOk result (Appends text.old text.new (event_refusal_words d.now (plain_why why))) }
+{
+    match why {
+        StepWhy::NoMessage(i) => {
+            text.extend_from_slice(b"NoMessage ")?;
+            text.push_decimal(u64::from(i))
+        }
+        StepWhy::Finished => text.extend_from_slice(b"Finished"),
+        StepWhy::NotLeader => text.extend_from_slice(b"NotLeader"),
+        StepWhy::Waits(p) => {
+            text.extend_from_slice(b"Waits ")?;
+            text.extend_from_slice(d.agent_name(p))
+        }
     }
 }
 
@@ -95,6 +121,7 @@ fn part_name(part: PartName) -> &'static [u8]
     match part {
         PartName::Diagram => b"diagram",
         PartName::Certificate => b"certificate",
+        PartName::Schedule => b"schedule",
     }
 }
 

@@ -1,24 +1,23 @@
 //! `replay`: the replay of a certificate on a diagram.
 
-ghost use Rattle.std.specs.Prelude.{◌≡◌, ◌≤◌, IfOk, IfErr, OnOk};
+ghost use Rattle.std.specs.Prelude.{◌≡◌, ◌≤◌, IfOk};
 ghost use Rattle.nego_model.specs.Negotiation.{IsDeterministic};
 ghost use Rattle.nego_model.specs.Diagram.{negotiation_of};
 ghost use Rattle.nego_cert.specs.Replay.{plain_verdict};
 ghost use Rattle.nego_cli.specs.Effect.{effect};
-ghost use Rattle.nego_cli.specs.Dispatch.{IsAnswerBy, IsRefusedFor};
-ghost use Rattle.nego_cli.specs.Reduce.{IsUndetermined};
+ghost use Rattle.nego_cli.specs.Dispatch.{IsAnswerBy};
 ghost use Rattle.nego_cli.specs.Replay.{ReplayTurn, ReplayText, IsReplayText, replay_status, replay_text, why_name};
 
 use crate::Status;
 use crate::answer::Answer;
-use crate::failure::{Failure, Refusal};
+use crate::determined::deterministic;
+use crate::failure::Failure;
 use crate::load::load_certificate;
 use nego_base::{Memory, Text};
 use nego_cert::{Cert, RuleWhy, Verdict};
 use nego_expr::print_summary;
 use nego_io::Source;
 use nego_model::Diagram;
-use nego_shape::determined;
 use std::alloc::Global;
 
 /// Reads the certificate behind the diagram, and replays it.
@@ -33,18 +32,6 @@ pub(crate) fn replay<S: Source>(
     let d = deterministic(d)?;
     let cert = load_certificate(alloc, source)?;
     Ok(replayed(alloc, &d, &cert)?)
-}
-
-/// The diagram, where it is deterministic.
-fn deterministic(d: Diagram) -> Result<Diagram, Failure>
-    ensures same { IfOk result (λ same. same ≡ d) }
-    ensures ok { OnOk result (IsDeterministic (negotiation_of d)) }
-    ensures err { IfErr result (IsRefusedFor (IsUndetermined d)) }
-{
-    match determined(&d) {
-        Ok(()) => Ok(d),
-        Err((o, a)) => Err(Failure::Refused(Refusal::Undetermined(d, o, a))),
-    }
 }
 
 /// Replays the certificate, and tells the verdict.

@@ -1,6 +1,6 @@
 //! The top call.
 
-ghost use Rattle.std.specs.Prelude.{◌≡◌, ◌⊎◌, ℕ, ◌≤◌, List, None};
+ghost use Rattle.std.specs.Prelude.{◌≡◌, ◌⊎◌, ℕ, ◌≤◌, List, [], None};
 ghost use Rattle.nego_io.specs.Outside.{WhereTold};
 ghost use Rattle.nego_cli.specs.Effect.{HasFaulted, effect};
 ghost use Rattle.nego_cli.specs.Parts.{reads_at};
@@ -10,6 +10,7 @@ ghost use Rattle.nego_cli.specs.Status.{IsTelling};
 ghost use Rattle.nego_cli.specs.Answer.{Says, ShowsLine, ShowsText, FailsToRead};
 ghost use Rattle.nego_cli.specs.Headline.{Headline};
 ghost use Rattle.nego_cli.specs.ReplayHeadline.{ReplayHeadline};
+ghost use Rattle.nego_cli.specs.RunHeadline.{RunHeadline};
 
 use crate::deliver::deliver;
 use crate::dispatch::find_answer;
@@ -51,6 +52,13 @@ pub fn nego<S: Source, O: Sink, E: Sink, C: Ledger>(
     // What `replay` accepts leads from the diagram to the printed summary, which tells the diagram; and its status is that
     // of the certificate's verdict.
     ensures certificate { Asks words.now Command.Replay → ReplayHeadline (effect S.left S.faults source.old source.new) (effect O.taken O.faults out.old out.new) (effect E.taken E.faults err.old err.new) result }
+
+    // What stands behind the report of `run` follows one run, whatever the schedule; and each schedule gets its report, or the
+    // line and the reason of its first event that is refused.
+    ensures schedule { (values : List ℕ) → Asks words.now (Command.Run values) → RunHeadline values (effect S.left S.faults source.old source.new) (effect O.taken O.faults out.old out.new) (effect E.taken E.faults err.old err.new) result }
+
+    // `make` tells its text whatever the source is.
+    ensures made { (n : ℕ) → Asks words.now (Command.Make n) → ShowsText (Command.Make n) [] (effect O.taken O.faults out.old out.new) (effect E.taken E.faults err.old err.new) result }
 
     // What has no part in the answer stays as it is, whether it tells or not: the source where the command that is asked
     // for reads no part, `out` where no text is put there, and `err` where the text is on `out`.

@@ -179,6 +179,21 @@ pub(crate) fn answers(
     answers_to(rt, alloc, call, input, table, i)
 }
 
+/// That each call answers so where this stands behind its diagram.
+pub(crate) fn answers_behind(
+    rt: &impl Abort,
+    alloc: Global,
+    rows: &[(&'static [u8], Call)],
+    table: &str,
+) -> Result<(), Fail> {
+    for (i, (behind, call)) in rows.iter().enumerate() {
+        let mut input = Text::copy(alloc, call.input)?;
+        input.extend_from_slice(behind)?;
+        answers_to(rt, alloc, call, input, table, i)?;
+    }
+    Ok(())
+}
+
 /// The same of a call over this input.
 pub(crate) fn answers_to(
     rt: &impl Abort,
@@ -200,4 +215,13 @@ pub(crate) fn answers_to(
     let n = source.take(&mut left)?;
     assert!(rt; &left[..n] == call.left, "{table} {i}");
     Ok(())
+}
+
+/// What a call over memory ends with and puts on `out`, where nothing fails.
+pub(crate) fn told(alloc: Global, words: &[Text], input: Text) -> Result<(u8, Text), Memory> {
+    let mut source = MemSource::new(input, Seq::new(alloc));
+    let mut out = MemSink::new(alloc, Seq::new(alloc))?;
+    let mut err = MemSink::new(alloc, Seq::new(alloc))?;
+    let status = call_over(alloc, words, &mut source, &mut out, &mut err);
+    Ok((status.number(), Text::copy(alloc, out.bytes())?))
 }

@@ -1,9 +1,8 @@
 //! Certificates that `replay` is given behind a diagram.
 
-use crate::tests::calls::{Call, PURCHASE, REDUCED, SET, answers_to, call_over, words_in};
+use crate::tests::calls::{Call, PURCHASE, REDUCED, SET, answers_to, told, words_in};
 use crate::tests::diagrams::{LATER, SPLIT};
 use nego_base::{Memory, Seq, Text};
-use nego_io::{MemSink, MemSource};
 use std::alloc::Global;
 use std::process::Abort;
 use std::test::Fail;
@@ -263,16 +262,6 @@ end
     ),
 ];
 
-/// That each is answered so.
-pub(crate) fn certificates_are_replayed(rt: &impl Abort, alloc: Global) -> Result<(), Fail> {
-    for (i, (behind, call)) in REPLAYS.iter().enumerate() {
-        let mut input = Text::copy(alloc, call.input)?;
-        input.extend_from_slice(behind)?;
-        answers_to(rt, alloc, call, input, "replay", i)?;
-    }
-    Ok(())
-}
-
 /// A certificate of as many shortcuts as a diagram's nodes allow, and one more.
 fn long_certificate(alloc: Global) -> Result<Text, Memory> {
     let mut text = Text::copy(alloc, b"certificate 1\n")?;
@@ -306,16 +295,6 @@ pub(crate) fn long_certificates_end(rt: &impl Abort, alloc: Global) -> Result<()
     answers_to(rt, alloc, &call, input, "long certificate", 1)
 }
 
-/// What a call over memory puts on `out`, where nothing fails.
-fn told(alloc: Global, words: &str, input: Text) -> Result<(u8, Text), Memory> {
-    let words = words_in(alloc, words)?;
-    let mut source = MemSource::new(input, Seq::new(alloc));
-    let mut out = MemSink::new(alloc, Seq::new(alloc))?;
-    let mut err = MemSink::new(alloc, Seq::new(alloc))?;
-    let status = call_over(alloc, &words, &mut source, &mut out, &mut err);
-    Ok((status.number(), Text::copy(alloc, out.bytes())?))
-}
-
 /// That what `reduce` prints of the diagram, behind the diagram, is replayed so: this front of the print is replaced by
 /// this line, and what is behind it is the same.
 fn is_replayed(
@@ -325,11 +304,15 @@ fn is_replayed(
     front: &[u8],
     line: &[u8],
 ) -> Result<(), Fail> {
-    let (status, reduction) = told(alloc, "reduce", Text::copy(alloc, diagram)?)?;
+    let (status, reduction) = told(
+        alloc,
+        &words_in(alloc, "reduce")?,
+        Text::copy(alloc, diagram)?,
+    )?;
     assert!(rt; reduction.starts_with(front));
     let mut input = Text::copy(alloc, diagram)?;
     input.extend_from_slice(&reduction)?;
-    let (again, replayed) = told(alloc, "replay", input)?;
+    let (again, replayed) = told(alloc, &words_in(alloc, "replay")?, input)?;
     assert!(rt; again == status.min(1));
     let mut wanted = Text::copy(alloc, line)?;
     if status == 0 {

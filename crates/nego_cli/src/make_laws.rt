@@ -1,0 +1,9 @@
+//! Laws of diagrams that are made. Each function does nothing; its clause is the law.
+
+ghost use Rattle.nego_cli.specs.MakeLaws.{MadeTextsAreInputs};
+
+/// What `make` prints is an input of each command over a diagram. This diagram is deterministic, acyclic and sound, and the
+/// last line tells how many uses and nodes `reduce` tells of it.
+pub fn made_texts_are_inputs()
+    ensures { MadeTextsAreInputs }
+{}
