@@ -3,7 +3,7 @@
 
 python3 bench/bench.py [--bin crates/nego/out/nego] [--runs 7] [COMMAND ..]
 
-A COMMAND is one of check, reduce, replay, ask; all of them without one. Each figure is the least of some runs, in
+A COMMAND is one of check, reduce, replay, ask, make, run; all of them without one. Each figure is the least of some runs, in
 milliseconds by the clock, and counts the start of the process.
 """
 
@@ -16,6 +16,7 @@ import time
 import diagrams
 
 OUTCOMES = (16, 32, 64, 128, 256)
+DATA = ((8, 1), (8, 8), (8, 64), (16, 64))
 ROOT = pathlib.Path(__file__).resolve().parent.parent
 
 
@@ -33,12 +34,17 @@ def least_time(program, words, given, runs):
     return 1000 * min(times)
 
 
+def starts(diagram):
+    """A start value for each agent."""
+    return ["0" for line in diagram.splitlines() if line.startswith("agent ")]
+
+
 def inputs(program, command, diagram):
     """The words and the input of a command over a diagram."""
     if command == "replay":
         return ["replay"], diagram + answer(program, ["reduce"], diagram)[1]
     if command == "ask":
-        return ["ask", "0", "0"], diagram
+        return ["ask", *starts(diagram)], diagram
     return [command], diagram
 
 
@@ -53,6 +59,17 @@ def table(program, command, runs):
         print(f"{name:12}" + "".join(cells))
 
 
+def growth(program, runs):
+    print("ask: milliseconds against joint data")
+    print(f"{'':12}" + "".join(f"{size * other:>9}" for size, other in DATA))
+    for rounds in (5, 20, 60):
+        cells = []
+        for size, other in DATA:
+            words, given = inputs(program, "ask", diagrams.counter(size, other, rounds))
+            cells.append(f"{least_time(program, words, given, runs):9.1f}")
+        print(f"{rounds:>3} loops   " + "".join(cells))
+
+
 def single(program, command, name, diagram, runs):
     words, given = inputs(program, command, diagram)
     figure(program, command, name, words, given, runs)
@@ -60,7 +77,7 @@ def single(program, command, name, diagram, runs):
 
 def figure(program, command, name, words, given, runs):
     status, out, err = answer(program, words, given)
-    said = next((line for line in out.splitlines() if " uses " in line or line.startswith("rejected")), err.strip())
+    said = next((line for line in out.splitlines() if " uses " in line or line.startswith(("rejected", "finished"))), err.strip())
     print(f"{command} {name}: {least_time(program, words, given, runs):.1f} ms, status {status} {said}")
 
 
@@ -68,11 +85,19 @@ def main():
     parser = argparse.ArgumentParser(description=__doc__.splitlines()[0])
     parser.add_argument("--bin", default=str(ROOT / "crates/nego/out/nego"))
     parser.add_argument("--runs", type=int, default=7)
-    parser.add_argument("commands", nargs="*", default=["check", "reduce", "replay", "ask"])
+    parser.add_argument("commands", nargs="*", default=["check", "reduce", "replay", "ask", "make", "run"])
     options = parser.parse_args()
     purchase = (ROOT / "examples/purchase.nego").read_text()
+    made = answer(options.bin, ["make", "64"], "")[1]
     for command in options.commands:
+        if command == "make":
+            figure(options.bin, command, "64", ["make", "64"], "", options.runs)
+            continue
+        if command == "run":
+            figure(options.bin, command, "of 10,000 events", ["run", "0", "0"], diagrams.long_run(), options.runs)
+            continue
         table(options.bin, command, options.runs)
+        single(options.bin, command, "make 64", diagrams.cut(made), options.runs)
         if command in ("check", "reduce", "replay"):
             single(options.bin, command, "purchase", purchase, options.runs)
         if command == "replay":
@@ -80,8 +105,11 @@ def main():
         if command in ("check", "reduce"):
             single(options.bin, command, "hub", diagrams.hub(), options.runs)
         if command == "ask":
+            growth(options.bin, options.runs)
             for size in (16, 32, 64):
-                single(options.bin, command, f"loops over {size} values", diagrams.counter(size, 20), options.runs)
+                counter = diagrams.counter(size, 1024 // size, 20)
+                single(options.bin, command, f"loops over {size} values", counter, options.runs)
+            figure(options.bin, command, "of 10,677 nodes", ["ask"] + ["0"] * 9, diagrams.long_way(193, 45), options.runs)
     return 0
 
 

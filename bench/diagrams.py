@@ -75,9 +75,9 @@ def hub():
     return text(lines, "hub", "end")
 
 
-def counter(size, rounds):
-    """Loops one behind the other, over one agent with many values: what an answer costs."""
-    lines = header([("a", size), ("b", 1024 // size)])
+def counter(size, other, rounds):
+    """Loops one behind the other, over two agents with so many values: what an answer costs."""
+    lines = header([("a", size), ("b", other)])
     for i in range(rounds):
         lines.append(f"atom s{i} a b")
         lines += outcome("again", ": a:=a+1", [(f"s{i}", ["a", "b"])])
@@ -87,7 +87,44 @@ def counter(size, rounds):
     return text(lines, "s0", f"s{rounds}")
 
 
+def long_way(ways, steps):
+    """A fork that leaves eight agents two places each, in so many ways, and a ninth with many steps to go: an answer from
+    an expression of many nodes."""
+    places = [(f"x{i}_{j}", f"a{i}") for i in range(8) for j in range(2)]
+    walk = [(f"w{k}", "z") for k in range(steps)]
+    agents = [f"a{i}" for i in range(8)] + ["z"]
+    lines = header([(agent, 2) for agent in agents])
+    lines.append("atom fork " + " ".join(agents))
+    for way in range(ways):
+        nexts = [(f"x{i}_{way >> i & 1}", [f"a{i}"]) for i in range(8)] + [("w0", ["z"])]
+        lines += outcome(f"o{way}", ":", nexts)
+    for k, (atom, agent) in enumerate(walk):
+        lines.append(f"atom {atom} {agent}")
+        lines += outcome("go", f": {agent}:={k % 2}", [(f"w{k + 1}" if k + 1 < steps else "meet", [agent])])
+    for atom, agent in places:
+        lines.append(f"atom {atom} {agent}")
+        lines += outcome("go", f": {agent}:={atom[-1]}", [("meet", [agent])])
+    lines.append("atom meet " + " ".join(agents))
+    lines += outcome("ok", ":", [])
+    return text(lines, "fork", "meet")
+
+
+def cut(made):
+    """What `make` prints, without the line behind the diagram."""
+    return "".join(made.splitlines(keepends=True)[:-1])
+
+
 FAMILIES = {"stages": stages, "loops": loops, "forks": forks}
+
+
+def long_run():
+    """A turn of two agents, and a schedule of 10,000 events in which it is repeated: each time its Ready is told and given,
+    the other agent decides, and its Decide is given."""
+    again = outcome("again", ": a:=a+1", [("turn", ["a", "b"])])
+    stop = outcome("stop", ": b:=1", [("end", ["a", "b"])])
+    lines = header([("a", 4), ("b", 2)]) + ["atom turn a b"] + again + stop + ["atom end a b"] + outcome("ok", ":", [])
+    events = [f"tell b\ngive {2 * i}\ndecide a 0 0\ngive {2 * i + 1}\n" for i in range(2500)]
+    return text(lines, "turn", "end") + "schedule 1\n" + "".join(events) + "end\n"
 
 
 def long_replay():
