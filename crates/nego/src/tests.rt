@@ -22,7 +22,7 @@ mod words;
 use answers::ANSWERS;
 use asks::ASKS;
 use calls::{BAD_WORDS, Call, answers, answers_behind};
-use made::{MADE, largest_is_answered, numbers_are_the_formulas};
+use made::{MADE, largest_is_answered, made_diagrams_are_sound, numbers_are_the_formulas};
 use refusals::{FAULTS, REFUSALS, lines_are_refused};
 use replays::{REPLAYS, long_certificates_end, reductions_are_replayed};
 use schedules::{SCHEDULES, long_schedules_end};
@@ -82,6 +82,7 @@ fn diagrams_are_made(rt: HostRuntime) -> Result<(), Fail> {
         answers(&rt, alloc, call, "made", i)?;
     }
     numbers_are_the_formulas(&rt, alloc)?;
+    made_diagrams_are_sound(&rt, alloc)?;
     largest_is_answered(&rt, alloc)
 }
 
