@@ -1,7 +1,7 @@
 -- What sets lack, when they grow.
-use Rattle.std.proofs.Common.{◌≡◌, inl, inr, ℕ, ◌+◌, ◌<◌, ◌||◌, ◌==◌, Bool, true, false, not, List, refl, sym, ap, ◌∙◌, arith, eq-eqb}
+use Rattle.std.proofs.Common.{◌≡◌, inl, inr, ℕ, ◌+◌, ◌<◌, Bool, true, false, not, List, refl, sym, subst, ap, ◌∙◌, arith}
 use Rattle.std.specs.List.{range_with_len}
-use Rattle.std.proofs.lemmas.Bool.{cases_eq, cases_lt, lt-ltb, or_left, or_right}
+use Rattle.std.proofs.lemmas.Bool.{cases_eq, cases_lt, lt-ltb}
 use Rattle.nego_base.specs.Members.{is_in}
 use Rattle.nego_base.proofs.Members.{is_in-range_zero}
 use Rattle.nego_data.specs.DataSets.{IsNoneBesides, IsLeastBesides}
@@ -20,21 +20,21 @@ lacked-fewer set more y grows below out within =
     lacks true t h k = sym (ap not (h refl)) ∙ k
     lacks false t h k = refl
 
--- what is followed of a set, where one more is: the least of those that weren't
-pub followed_more : (set old new : List ℕ) (from y : ℕ) → IsNoneBesides (λ e. is_in e set) (λ e. is_in e old) 0 from → IsLeastBesides (λ e. is_in e set) (λ e. is_in e old) from 1024 y →
-    ((e : ℕ) → is_in e new ≡ (y == e || is_in e old)) → IsNoneBesides (λ e. is_in e set) (λ e. is_in e new) 0 (y + 1)
-followed_more set old new from y before found each e low less is = each e ∙ elim (cases_eq y e) [
-  | inl same ↦ or_left (y == e) (is_in e old) (eq-eqb y e same)
-  | inr other ↦ or_right (y == e) (is_in e old) (elim (cases_lt e from) [
-    | inl sooner ↦ before e low sooner is
+-- what is followed of a set, where more is: the least of those that weren't is
+pub followed_more : (set old new : List ℕ) (low from y : ℕ) → IsNoneBesides (λ e. is_in e set) (λ e. is_in e old) low from → IsLeastBesides (λ e. is_in e set) (λ e. is_in e old) from 1024 y →
+    is_in y new ≡ true → ((e : ℕ) → is_in e old ≡ true → is_in e new ≡ true) → IsNoneBesides (λ e. is_in e set) (λ e. is_in e new) low (y + 1)
+followed_more set old new low from y before found here grows e least less is = elim (cases_eq y e) [
+  | inl same ↦ subst (λ z. is_in z new ≡ true) same here
+  | inr other ↦ grows e (elim (cases_lt e from) [
+    | inl sooner ↦ before e least sooner is
     | inr later ↦ found.least e later (omega (arith, less, other)) is
   ])
 ]
 
--- all of a set was followed, where it was up to a number and none is left from there on
-pub followed_all : (set followed : List ℕ) (from : ℕ) → ((e : ℕ) → is_in e set ≡ true → e < 1024) → IsNoneBesides (λ e. is_in e set) (λ e. is_in e followed) 0 from → IsNoneBesides (λ e. is_in e set) (λ e. is_in e followed) from 1024 →
-    (e : ℕ) → is_in e set ≡ true → is_in e followed ≡ true
-followed_all set followed from below before after e m = elim (cases_lt e from) [
-  | inl sooner ↦ before e (omega arith) sooner m
-  | inr later ↦ after e later (below e m) m
+-- all of a set from a number on was followed, where it was up to a later one and none is left from there on
+pub followed_all : (set followed : List ℕ) (low from : ℕ) → IsNoneBesides (λ e. is_in e set) (λ e. is_in e followed) low from → IsNoneBesides (λ e. is_in e set) (λ e. is_in e followed) from 1024 →
+    IsNoneBesides (λ e. is_in e set) (λ e. is_in e followed) low 1024
+followed_all set followed low from before after e least less is = elim (cases_lt e from) [
+  | inl sooner ↦ before e least sooner is
+  | inr later ↦ after e later less is
 ]

@@ -111,3 +111,20 @@ module _ (base : Relation) (nodes : List PlainNode) (formed : IsNodeList nodes) 
         along : (path : List ℕ) (d e : ℕ) → is_in d met ≡ true → IsPath (Means base nodes a) d path e → is_in e met ≡ true
         along [] d e m p = subst (λ z. is_in z met ≡ true) p m
         along (c ∷ path) d e m p = along path c e (begun.all d c (done d m) p.0) p.1
+
+  -- all that a star relates to a number is followed at once by the row of a composition that begins with the star
+  pub then_leapt : (i s b a count x y : ℕ) (met followed whole closed met' followed' : List ℕ) → slice_get nodes i ≡ Some (Then s b) → slice_get nodes s ≡ Some (Star a) → Means base nodes s x y →
+      IsBegun (Means base nodes i) (Means base nodes b) count x met followed → IsRowOf (Means base nodes i) count y whole → IsRowOf (Means base nodes s) count y closed →
+      ((e : ℕ) → is_in e met' ≡ (is_in e met || is_in e whole)) → ((e : ℕ) → is_in e followed' ≡ (is_in e followed || is_in e closed)) →
+      IsBegun (Means base nodes i) (Means base nodes b) count x met' followed'
+  then_leapt i s b a count x y met followed whole closed met' followed' h star there begun row ends each each' = record {
+    sound = λ e m. elim (or_cases (is_in e met) (is_in e whole) (sym (each e) ∙ m)) [
+      | inl k ↦ begun.sound e k
+      | inr k ↦ let w = (means_at i (Then s b) h y e).0 ((row.exact e).0 k) in then_step i s b x w.0 e h (star_through s a star x y w.0 there w.1) w.2
+    ];
+    below = λ e m. elim (or_cases (is_in e met) (is_in e whole) (sym (each e) ∙ m)) [ inl k ↦ begun.below e k | inr k ↦ row.below e k ];
+    all = λ z e m w. elim (or_cases (is_in z followed) (is_in z closed) (sym (each' z) ∙ m)) [
+      | inl old ↦ each e ∙ or_left (is_in e met) (is_in e whole) (begun.all z e old w)
+      | inr new ↦ each e ∙ or_right (is_in e met) (is_in e whole) ((row.exact e).1 (then_step i s b y z e h ((ends.exact z).0 new) w))
+    ];
+  }

@@ -1,7 +1,9 @@
 //! Rows in the making.
-ghost use Rattle.std.specs.Prelude.{◌≡◌, ℕ, ◌<◌, ◌≤◌, ◌||◌, ◌==◌, false, true, slice_get, Some, IfErr, OnOk};
+ghost use Rattle.std.specs.Prelude.{◌≡◌, ℕ, ◌<◌, ◌≤◌, ◌||◌, ◌==◌, false, true, slice_get, Some, MatchOption, IfErr, OnOk};
 ghost use Rattle.nego_base.specs.Members.{is_in};
+ghost use Rattle.nego_data.specs.DataSets.{IsNoneBesides};
 ghost use Rattle.nego_model.specs.Expression.{Join, Then, Star};
+ghost use Rattle.nego_eval.specs.Begun.{IsRowOf};
 ghost use Rattle.nego_eval.specs.Rows.{lacked};
 ghost use Rattle.nego_eval.specs.Frames.{AreRows, IsPair, IsRowAt, IsWanted, IsGoing, IsFrame, meaning, kept_row};
 
@@ -74,7 +76,8 @@ impl Frame {
         Ok(())
     }
 
-    /// What the first node relates, and then the second.
+    /// What the first node relates, and then the second. The numbers from the start on come first, since the rows from
+    /// there are kept sooner.
     fn through(&mut self, rows: &Rows, first: NodeId, second: NodeId) -> Result<(), Pair>
         requires rows { AreRows rows.now }
         requires there { IsPair rows.now self.old.pair }
@@ -89,12 +92,103 @@ impl Frame {
     {
         let start = self.pair.start;
         let middle = rows.find(Pair { node: first, start })?;
-        let mut from = 0;
+        self.sweep(rows, first, second, middle, start)?;
+        self.sweep(rows, first, second, middle, 0)
+    }
+
+    /// Follows all from a number on that the first node relates to the start.
+    fn sweep(
+        &mut self,
+        rows: &Rows,
+        first: NodeId,
+        second: NodeId,
+        middle: &DataSet,
+        low: u16,
+    ) -> Result<(), Pair>
+        requires rows { AreRows rows.now }
+        requires there { IsPair rows.now self.old.pair }
+        requires first { first.0 < self.old.pair.node.0 }
+        requires second { second.0 < self.old.pair.node.0 }
+        requires node { slice_get rows.now.nodes.now.nodes self.old.pair.node.0 ≡ Some (Then first.0 second.0) }
+        requires middle { IsRowOf (meaning rows.now first.0) rows.now.joint self.old.pair.start middle.now }
+        requires low { low ≤ 1024 }
+        requires going { IsGoing rows.now self.old second.0 }
+        ensures pair { self.new.pair ≡ self.old.pair }
+        ensures going { IsGoing rows.now self.new second.0 }
+        ensures done { OnOk result (IsNoneBesides (λ e. is_in e middle.now) (λ e. is_in e self.new.followed) low 1024) }
+        ensures wanted { IfErr result (λ wanted. IsWanted rows.now self.old.pair wanted) }
+    {
+        let mut from = low;
         while let Some(y) = middle.least_besides(&self.followed, from) {
-            self.follow(rows, second, y)?;
+            self.pass(rows, first, second, y)?;
             from = y + 1;
         }
         Ok(())
+    }
+
+    /// Follows a number that the first node relates to the start.
+    fn pass(&mut self, rows: &Rows, first: NodeId, second: NodeId, y: u16) -> Result<(), Pair>
+        requires rows { AreRows rows.now }
+        requires there { IsPair rows.now self.old.pair }
+        requires first { first.0 < self.old.pair.node.0 }
+        requires second { second.0 < self.old.pair.node.0 }
+        requires node { slice_get rows.now.nodes.now.nodes self.old.pair.node.0 ≡ Some (Then first.0 second.0) }
+        requires start { y < rows.now.joint }
+        requires between { meaning rows.now first.0 self.old.pair.start y }
+        requires fresh { is_in y self.old.followed ≡ false }
+        requires going { IsGoing rows.now self.old second.0 }
+        ensures pair { self.new.pair ≡ self.old.pair }
+        ensures going { IsGoing rows.now self.new second.0 }
+        ensures followed { OnOk result (is_in y self.new.followed ≡ true) }
+        ensures grows { OnOk result ((e : ℕ) → is_in e self.old.followed ≡ true → is_in e self.new.followed ≡ true) }
+        ensures wanted { IfErr result (λ wanted. IsWanted rows.now self.old.pair wanted) }
+    {
+        if let Some(Node::Star(_)) = rows.nodes.get(first) {
+            return self.leap(rows, first, second, y);
+        }
+        self.follow(rows, second, y)
+    }
+
+    /// Follows a number that a star before the second node relates to the start: where the node's row from there is kept,
+    /// all that the star relates to the number is followed at once. The rows of greater starts are asked for first.
+    fn leap(&mut self, rows: &Rows, star: NodeId, second: NodeId, y: u16) -> Result<(), Pair>
+        requires rows { AreRows rows.now }
+        requires there { IsPair rows.now self.old.pair }
+        requires first { star.0 < self.old.pair.node.0 }
+        requires second { second.0 < self.old.pair.node.0 }
+        requires node { slice_get rows.now.nodes.now.nodes self.old.pair.node.0 ≡ Some (Then star.0 second.0) }
+        requires star { (child : ℕ) × (slice_get rows.now.nodes.now.nodes star.0 ≡ Some (Star child)) }
+        requires start { y < rows.now.joint }
+        requires between { meaning rows.now star.0 self.old.pair.start y }
+        requires fresh { is_in y self.old.followed ≡ false }
+        requires going { IsGoing rows.now self.old second.0 }
+        ensures pair { self.new.pair ≡ self.old.pair }
+        ensures going { IsGoing rows.now self.new second.0 }
+        ensures followed { OnOk result (is_in y self.new.followed ≡ true) }
+        ensures grows { OnOk result ((e : ℕ) → is_in e self.old.followed ≡ true → is_in e self.new.followed ≡ true) }
+        ensures wanted { IfErr result (λ wanted. IsWanted rows.now self.old.pair wanted) }
+    {
+        let other = Pair {
+            node: self.pair.node,
+            start: y,
+        };
+        match rows.find(other) {
+            Ok(whole) => {
+                let closed = rows.find(Pair {
+                    node: star,
+                    start: y,
+                })?;
+                self.met.add(whole);
+                self.followed.add(closed);
+                Ok(())
+            }
+            Err(wanted) => {
+                if self.pair.start < y {
+                    return Err(wanted);
+                }
+                self.follow(rows, second, y)
+            }
+        }
     }
 
     /// What the node relates any number of times. Each number is followed once.
@@ -110,10 +204,21 @@ impl Frame {
         ensures wanted { IfErr result (λ wanted. IsWanted rows.now self.old.pair wanted) }
     {
         self.met.insert(self.pair.start);
-        while let Some(y) = self.met.least_besides(&self.followed, 0) {
+        while let Some(y) = self.next() {
             self.step(rows, child, y)?;
         }
         Ok(())
+    }
+
+    /// A number that was met and not followed, from the start on where there is one: the rows from there are kept sooner.
+    fn next(&self) -> Option<u16>
+        requires { self.now.pair.start ≤ 1024 }
+        ensures { MatchOption result (IsNoneBesides (λ e. is_in e self.now.met) (λ e. is_in e self.now.followed) 0 1024) (λ y. (is_in y self.now.met ≡ true) × (is_in y self.now.followed ≡ false)) }
+    {
+        if let Some(y) = self.met.least_besides(&self.followed, self.pair.start) {
+            return Some(y);
+        }
+        self.met.least_besides(&self.followed, 0)
     }
 
     /// Follows a number that a star has met: where the star's row from there is kept, all of it is followed at once. The
