@@ -149,8 +149,9 @@ impl Frame {
         self.follow(rows, second, y)
     }
 
-    /// Follows a number that a star before the second node relates to the start: where the node's row from there is kept,
-    /// all that the star relates to the number is followed at once. The rows of greater starts are asked for first.
+    /// Follows a number that a star relates to the start, where the second node comes after the star: the node's own row
+    /// from there is taken where it is kept, and all that the star relates to the number is followed at once. The rows of
+    /// greater starts are asked for first.
     fn leap(&mut self, rows: &Rows, star: NodeId, second: NodeId, y: u16) -> Result<(), Pair>
         requires rows { AreRows rows.now }
         requires there { IsPair rows.now self.old.pair }
