@@ -11,6 +11,7 @@ pub mod FreshBuilt
 pub mod FreshLists
 pub mod FreshSteps
 pub mod FreshWorks
+pub mod Gaps
 pub mod KeptWorks
 pub mod Leading
 pub mod LocalWorks

@@ -1,5 +1,5 @@
 //! The alive outcomes of a work in the order of their atoms, their targets and their numbers.
-ghost use Rattle.std.specs.Prelude.{◌≡◌, ◌≢◌, ◌↔◌, ◌⊎◌, ◌+◌, ◌-◌, ◌<◌, ◌≤◌, [], Some, length, map, max, slice_get, AllPairs, Contains, IfOk, IfErr, OnOk, OnErr};
+ghost use Rattle.std.specs.Prelude.{◌≡◌, ◌≢◌, ◌↔◌, ◌⊎◌, ◌+◌, ◌-◌, ◌<◌, ◌≤◌, [], Some, length, map, max, slice_get, insert, remove, AllPairs, Contains, IfOk, IfErr, OnOk, OnErr};
 ghost use Rattle.std.specs.List.Sorted.{IsPartitionPoint};
 ghost use Rattle.nego_expr.specs.Sorted.{PlainSlot, plain_slot, slot_of, slot_cmp, IsBelow};
 ghost use Rattle.nego_expr.specs.WorkView.{plain_outcome};
@@ -27,6 +27,16 @@ impl Slot {
             atom: x.atom,
             targets: x.targets.copy(),
             outcome: x.number,
+        }
+    }
+
+    /// The same slot once more.
+    fn copy(&self) -> Slot
+        ensures { plain_slot result ≡ plain_slot self.now }
+    {
+        Slot {
+            targets: self.targets.copy(),
+            ..*self
         }
     }
 
@@ -115,8 +125,18 @@ impl Slots {
         ensures items { (slot : PlainSlot) → Contains self.new.items slot ↔ ((Contains self.old.items slot × (slot ≢ slot_of (plain_outcome old.now))) ⊎ (slot ≡ slot_of (plain_outcome new.now))) }
         ensures room { self.old.room ≤ self.new.room }
     {
-        self.remove(old);
-        self.insert(new);
+        let from = place_of_slot(self.slots.as_slice(), old);
+        match search(self.slots.as_slice(), new) {
+            Err(i) => {
+                let to = if from < i { i - 1 } else { i };
+                put_instead(&mut self.slots, from, to, new);
+            }
+            // The new slot is there already: it is the old one, or another's.
+            Ok(_) => {
+                self.remove(old);
+                self.insert(new);
+            }
+        }
     }
 
     /// Takes the slots of an atom away.
@@ -135,6 +155,24 @@ pub fn place_of_slot(slots: &[Slot], x: &Outcome) -> usize
     ensures { slice_get (map plain_slot slots.now) result ≡ Some (slot_of (plain_outcome x.now)) }
 {
     search(slots, x).unwrap()
+}
+
+/// Takes the slot at a place away, and puts the slot of an outcome at a place among the others. Only the slots between
+/// the two places move.
+fn put_instead(slots: &mut Reserved<Slot>, from: usize, to: usize, x: &Outcome)
+    requires from { from < length slots.old.items }
+    requires to { to < length slots.old.items }
+    ensures items { map plain_slot slots.new.items ≡ insert (remove (map plain_slot slots.old.items) from) to (slot_of (plain_outcome x.now)) }
+    ensures room { slots.new.room ≡ slots.old.room }
+{
+    let mut gap = from;
+    while gap != to {
+        let next = if gap < to { gap + 1 } else { gap - 1 };
+        let slot = slots.as_slice()[next].copy();
+        slots.set(gap, slot);
+        gap = next;
+    }
+    slots.set(to, Slot::of(x));
 }
 
 /// The place of the slot of an outcome, or the place where it is to stand.
