@@ -4,7 +4,7 @@ use Rattle.std.proofs.Math.Seq.{drop-append-add}
 use Rattle.std.proofs.lemmas.List.{append-nil, length-append, length-drop, take-append-drop, drop_at, drop-append-le}
 use Rattle.std.proofs.lemmas.Option.{cond_some}
 use Rattle.nego_io.specs.Part.{is_end_line, part_of, Reading, reading, Whole, PastLimit, Unended, behind, left_over}
-use Rattle.nego_io.specs.Front.{IsOpen}
+use Rattle.nego_io.specs.Front.{IsOpen, Reaches}
 use Rattle.nego_io.specs.Answer.{Answers, TakesWithin, TakesUpTo}
 use Rattle.nego_io.specs.declared.part.Part.{Part}
 use Rattle.nego_io.specs.declared.part.ReadAnswer.{ReadAnswer}
@@ -23,11 +23,14 @@ open_fits bytes start lines before [] part found =
     omega (arith, ap length (cond_some (is_end_line (drop start bytes)) bytes part here).1)
 open_fits bytes start lines before (c ∷ rest) part found = omega (arith, part_beyond bytes start lines c rest part before found)
 
--- and one more byte
-pub next_fits : (bytes : List ℕ) (start lines b : ℕ) → IsOpen bytes start lines → FitsParts (bytes ++ b ∷ [])
-next_fits bytes start lines b before now part found =
-    let longer = part_beyond bytes start lines b now part before (ap part_of (sym (append_assoc bytes (b ∷ []) now)) ∙ found) in
-    omega (arith, longer, length-append bytes (b ∷ []))
+-- and more bytes, for which the part goes on
+pub next_fits : (bytes : List ℕ) (start lines : ℕ) (next : List ℕ) (n : ℕ) → IsOpen bytes start lines → Reaches bytes n → length next ≤ n → FitsParts (bytes ++ next)
+next_fits bytes start lines [] n before reach few now part found =
+    let same = append-nil bytes in
+    omega (arith, ap length same, open_fits bytes start lines before now part (ap (λ t. part_of (t ++ now)) (sym same) ∙ found))
+next_fits bytes start lines (b ∷ bs) n before reach few now part found =
+    let longer = reach b (bs ++ now) part (ap part_of (sym (append_assoc bytes (b ∷ bs) now)) ∙ found) in
+    omega (arith, longer, length-append bytes (b ∷ bs))
 
 -- what is behind a part is behind what fits it
 left_from : (limit : ℕ) (taken now : List ℕ) (r : Reading) → FitsParts taken → length taken ≤ limit + 1 → reading limit (taken ++ now) ≡ r → (more : List ℕ) × (now ≡ more ++ left_over limit (taken ++ now) r)

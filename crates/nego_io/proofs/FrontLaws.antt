@@ -1,5 +1,5 @@
 -- Laws of the bytes that were read of a part that has not come to its end.
-use Rattle.std.proofs.Common.{◌≡◌, ℕ, ◌+◌, ◌<◌, ◌≤◌, Bool, true, false, cond, List, [], ◌∷◌, ◌++◌, length, take, drop, Option, Some, None, option_map, refl, sym, ◌∙◌, ap, append_assoc, zero-le, arith}
+use Rattle.std.proofs.Common.{◌≡◌, ℕ, ◌+◌, ◌≤◌, Bool, true, false, cond, List, [], ◌∷◌, ◌++◌, length, take, drop, Option, Some, None, option_map, refl, sym, ◌∙◌, ap, append_assoc, zero-le, arith}
 use Rattle.std.specs.List.{list_any}
 use Rattle.std.proofs.lemmas.Bool.{or_from, cond-true, cond-false}
 use Rattle.std.proofs.lemmas.List.{length-append, take-append-drop, take-append-le, drop-append-le, take_all, drop_all}
@@ -114,14 +114,22 @@ part_here bytes start lines before =
     ap part_of (sym (take-append-drop start bytes)) ∙ (before.passes line ∙ (ap (option_map (λ part. front ++ part)) (part_last line before.unfinished)
     ∙ at_end front line (is_end_line line) ∙ ap (λ t. cond (is_end_line line) (Some t) None) (take-append-drop start bytes)))
 
--- the part of these bytes and more is longer than they are
-pub part_beyond : (bytes : List ℕ) (start lines c : ℕ) (rest part : List ℕ) → IsOpen bytes start lines → part_of (bytes ++ c ∷ rest) ≡ Some part → length bytes < length part
-part_beyond bytes start lines c rest part before h =
+-- the part of these bytes and more is as much longer than they are as that of the present line and more is
+pub part_beyond_by : (bytes : List ℕ) (start lines c : ℕ) (rest part : List ℕ) (n : ℕ) → IsOpen bytes start lines →
+    ((found : List ℕ) → part_of (drop start bytes ++ c ∷ rest) ≡ Some found → length (drop start bytes) + n ≤ length found) →
+    part_of (bytes ++ c ∷ rest) ≡ Some part → length bytes + n ≤ length part
+part_beyond_by bytes start lines c rest part n before beyond h =
     let front = take start bytes in
     let line = drop start bytes in
     let all : front ++ (line ++ c ∷ rest) ≡ bytes ++ c ∷ rest = sym (append_assoc front line (c ∷ rest)) ∙ ap (λ t. t ++ c ∷ rest) (take-append-drop start bytes) in
     let found = map_some (λ part. front ++ part) (part_of (line ++ c ∷ rest)) part (sym (before.passes (line ++ c ∷ rest)) ∙ (ap part_of all ∙ h)) in
-    let longer : length line < length found.0 = part_long line c rest found.0 before.unfinished found.1 in
+    let longer : length line + n ≤ length found.0 = beyond found.0 found.1 in
     let size : length part ≡ length front + length found.0 = ap length (sym found.2) ∙ length-append front found.0 in
     let whole : length front + length line ≡ length bytes = sym (length-append front line) ∙ ap length (take-append-drop start bytes) in
     omega arith
+
+-- the part of these bytes and more is longer than they are
+pub part_beyond : (bytes : List ℕ) (start lines c : ℕ) (rest part : List ℕ) → IsOpen bytes start lines → part_of (bytes ++ c ∷ rest) ≡ Some part → length bytes + 1 ≤ length part
+part_beyond bytes start lines c rest part before h =
+    let line = drop start bytes in
+    part_beyond_by bytes start lines c rest part 1 before (λ found e. omega (arith, part_long line c rest found before.unfinished e)) h

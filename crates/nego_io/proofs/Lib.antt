@@ -8,4 +8,5 @@ pub mod OutsideLaws
 pub mod PartLaws
 pub mod ReadLaws
 pub mod ReadingLaws
+pub mod ReachLaws
 pub mod ReplayLaws

@@ -1,5 +1,5 @@
--- What the answers of `read_part` say, from what was taken byte by byte.
-use Rattle.std.proofs.Common.{◌≡◌, ℕ, ◌+◌, ◌≤◌, List, [], ◌∷◌, ◌++◌, length, drop, Option, Some, None, Result, Ok, Err, IfOk, OnErr, sym, ◌∙◌, ap, append_assoc, arith}
+-- What the answers of `read_part` say, from what was taken piece by piece.
+use Rattle.std.proofs.Common.{◌≡◌, ℕ, ◌+◌, ◌≤◌, List, [], ◌++◌, length, drop, Option, Some, None, Result, Ok, Err, IfOk, OnErr, sym, ◌∙◌, ap, arith}
 use Rattle.std.proofs.lemmas.List.{append-nil, length-append, drop_at}
 use Rattle.nego_io.specs.Outside.{WhereTold, Takes}
 use Rattle.nego_io.specs.Part.{part_of, newlines, reading, Whole, PastLimit}
@@ -8,15 +8,15 @@ use Rattle.nego_io.specs.Answer.{Answers, TakesWithin}
 use Rattle.nego_io.specs.declared.part.Part.{Part}
 use Rattle.nego_io.specs.declared.part.ReadAnswer.{ReadAnswer}
 use Rattle.nego_io.specs.declared.part.ReadAnswer.TheVariants.{NoEnd}
-use Rattle.nego_io.proofs.BehindLaws.{FitsParts, open_fits, next_fits, within}
+use Rattle.nego_io.proofs.BehindLaws.{FitsParts, open_fits, within}
 use Rattle.nego_io.proofs.OutsideLaws.{told_so, told_then, told_both, takes_then}
 use Rattle.nego_io.proofs.ReadingLaws.{reading_closed, reading_all, reading_none, reading_past}
 
--- What was taken before the byte number `count`: the bytes of a part that has not come to its end.
-pub record HasTaken (old now : Option (List ℕ)) (bytes : List ℕ) (start lines count first last : ℕ) : Type 0 where
+-- What was taken: the bytes of a part that has not come to its end.
+pub record HasTaken (old now : Option (List ℕ)) (bytes : List ℕ) (start lines limit first last : ℕ) : Type 0 where
   pub told : Takes bytes old now
   pub unended : IsOpen bytes start lines
-  pub size : length bytes ≡ count
+  pub fits : length bytes ≤ limit
   pub stayed : last ≡ first
 
 -- These bytes were taken, which are no longer than a part.
@@ -29,10 +29,10 @@ taken_then_failed limit bytes start lines old mid new before size first second =
     let all : Takes bytes old new = rw (append-nil bytes) at (takes_then bytes [] old mid new first second) in
     taken_within limit bytes old new (open_fits bytes start lines before) (omega arith) all
 
--- There was no memory for the byte after these.
-pub taken_then_starved : (limit : ℕ) (bytes : List ℕ) (start lines b : ℕ) (old mid new : Option (List ℕ)) → IsOpen bytes start lines → length bytes ≤ limit → Takes bytes old mid → Takes (b ∷ []) mid new → WhereTold old new (TakesWithin limit)
-taken_then_starved limit bytes start lines b old mid new before size first second =
-    taken_within limit (bytes ++ b ∷ []) old new (next_fits bytes start lines b before) (omega (arith, length-append bytes (b ∷ []))) (takes_then bytes (b ∷ []) old mid new first second)
+-- There was no memory for the bytes after these.
+pub taken_then_starved : (limit : ℕ) (bytes next : List ℕ) (old mid new : Option (List ℕ)) → FitsParts (bytes ++ next) → length bytes + length next ≤ limit + 1 → Takes bytes old mid → Takes next mid new → WhereTold old new (TakesWithin limit)
+taken_then_starved limit bytes next old mid new fits size first second =
+    taken_within limit (bytes ++ next) old new fits (omega (arith, length-append bytes next)) (takes_then bytes next old mid new first second)
 
 -- These bytes are a part, and all of them were taken.
 pub taken_part : (limit : ℕ) (part : Part) (old new : Option (List ℕ)) → IsClosed part.bytes → length part.bytes ≤ limit → Takes part.bytes old new → WhereTold old new (Answers limit (Ok part))
@@ -72,13 +72,14 @@ pub whole_all : (limit : ℕ) (bytes : List ℕ) (r : Result Part ReadAnswer) �
 whole_all limit bytes (Ok part) is fits = rw is.0 (reading_all limit bytes is.1 fits)
 whole_all limit bytes (Err e) is fits = tt
 
--- One more byte came after as many as the limit.
-pub taken_past : (limit : ℕ) (bytes : List ℕ) (start lines c : ℕ) (old mid new : Option (List ℕ)) → IsOpen bytes start lines → length bytes ≡ limit → Takes bytes old mid → Takes (c ∷ []) mid new →
+-- One byte more than the limit came, and no part ended before the last of them.
+pub taken_past : (limit : ℕ) (bytes next : List ℕ) (old mid new : Option (List ℕ)) → FitsParts (bytes ++ next) → length bytes + length next ≡ limit + 1 → Takes bytes old mid → Takes next mid new →
     WhereTold old new (λ before now. (reading limit before ≡ PastLimit) × (now ≡ drop (limit + 1) before))
-taken_past limit bytes start lines c old mid new here size first second =
-    told_so (λ before now. before ≡ (bytes ++ c ∷ []) ++ now) (λ before now. (reading limit before ≡ PastLimit) × (now ≡ drop (limit + 1) before)) old new
+taken_past limit bytes next old mid new fits size first second =
+    let taken = bytes ++ next in
+    let long : length taken ≡ limit + 1 = length-append bytes next ∙ size in
+    told_so (λ before now. before ≡ taken ++ now) (λ before now. (reading limit before ≡ PastLimit) × (now ≡ drop (limit + 1) before)) old new
     (λ before now e. (
-      ap (reading limit) (e ∙ append_assoc bytes (c ∷ []) now) ∙ reading_past limit bytes start lines c now here size,
-      sym (ap (drop (limit + 1)) e ∙ drop_at (bytes ++ c ∷ []) now (limit + 1) (omega (arith, length-append bytes (c ∷ [])))),
-    ))
-    (takes_then bytes (c ∷ []) old mid new first second)
+      ap (reading limit) e ∙ reading_past limit taken now (omega (arith, long)) (fits now),
+      sym (ap (drop (limit + 1)) e ∙ drop_at taken now (limit + 1) long),
+    )) (takes_then bytes next old mid new first second)

@@ -1,11 +1,10 @@
--- What an input holds for one who reads it byte by byte.
-use Rattle.std.proofs.Common.{◌≡◌, ℕ, ◌+◌, ◌<◌, ◌≤◌, List, [], ◌∷◌, ◌++◌, length, drop, Option, Some, None, refl, ◌∙◌, ap, arith}
+-- What an input holds for one who reads it piece by piece.
+use Rattle.std.proofs.Common.{◌≡◌, ℕ, ◌+◌, ◌<◌, ◌≤◌, List, [], ◌++◌, length, drop, Option, Some, None, refl, ◌∙◌, ap, arith}
 use Rattle.std.specs.Option.{option_map_or}
 use Rattle.std.proofs.lemmas.Bool.{cond-true, cond-false, le-leb, lt-leb}
 use Rattle.std.proofs.lemmas.List.{length-append, drop_at, drop_all}
 use Rattle.nego_io.specs.Part.{part_of, newlines, reading, ended, unended, Whole, PastLimit, Unended}
-use Rattle.nego_io.specs.Front.{IsOpen, IsClosed}
-use Rattle.nego_io.proofs.FrontLaws.{part_beyond}
+use Rattle.nego_io.specs.Front.{IsClosed}
 
 -- an input that begins with a part within the limit
 pub reading_part : (limit : ℕ) (input part : List ℕ) → part_of input ≡ Some part → length part ≤ limit → reading limit input ≡ Whole part (drop (length part) input)
@@ -29,12 +28,12 @@ unfolding reading
 reading_none limit bytes none fits =
     ap (λ o. option_map_or (ended limit bytes) o (unended limit bytes)) none ∙ cond-true _ _ _ (le-leb _ _ fits)
 
--- no part ends within these bytes, which are as many as the limit, and one more follows
-pub reading_past : (limit : ℕ) (bytes : List ℕ) (start lines c : ℕ) (rest : List ℕ) → IsOpen bytes start lines → length bytes ≡ limit → reading limit (bytes ++ c ∷ rest) ≡ PastLimit
+-- no part ends before the last of these bytes, which are more than the limit
+pub reading_past : (limit : ℕ) (taken rest : List ℕ) → limit < length taken → ((part : List ℕ) → part_of (taken ++ rest) ≡ Some part → length taken ≤ length part) → reading limit (taken ++ rest) ≡ PastLimit
 unfolding reading
-reading_past limit bytes start lines c rest before size =
-    let input = bytes ++ c ∷ rest in
-    past limit input (part_of input) refl (omega (arith, length-append bytes (c ∷ rest))) (λ part found. omega (arith, part_beyond bytes start lines c rest part before found))
+reading_past limit taken rest more fits =
+    let input = taken ++ rest in
+    past limit input (part_of input) refl (omega (arith, more, length-append taken rest)) (λ part found. omega (arith, more, fits part found))
   where
     past : (limit : ℕ) (input : List ℕ) (o : Option (List ℕ)) → part_of input ≡ o → limit < length input → ((part : List ℕ) → part_of input ≡ Some part → limit < length part) →
         option_map_or (ended limit input) o (unended limit input) ≡ PastLimit

@@ -1,11 +1,21 @@
 ghost use Rattle.std.specs.Prelude.{◌≡◌, ◌+◌, ◌^◌, ◌<◌, ◌≤◌, [], ◌∷◌, ◌++◌, length, drop, Some, None, IfOk, OnErr, MatchBool};
 ghost use Rattle.nego_io.specs.Part.{part_of, newlines};
-ghost use Rattle.nego_io.specs.Front.{IsOpen, IsClosed};
+ghost use Rattle.nego_io.specs.Front.{IsOpen, IsClosed, Reaches, begins_other};
 
 use crate::lines::ends_part;
 use crate::{Part, ReadAnswer};
 use nego_base::{Memory, Text};
 use std::alloc::Global;
+
+/// For how many bytes a part goes on at least behind a piece of another line: a newline, and the word `end`.
+pub const MAX_REACH: usize = 4;
+
+/// Whether a line that begins with this byte is no end line, and goes on.
+fn begins_other(b: u8) -> bool
+    ensures { result ≡ begins_other b }
+{
+    !(b == b' ' || b == b'\t' || b == b'\n' || b == b'\r' || b == b'e')
+}
 
 /// What was read of a part: its bytes, where its present line begins, and how many lines are before that one.
 #[derive(Debug, Drop)]
@@ -37,7 +47,7 @@ impl Front {
     }
 
     /// Puts the next byte behind the others, and answers whether the part ends with it.
-    pub fn push(&mut self, byte: u8) -> Result<bool, Memory>
+    fn push(&mut self, byte: u8) -> Result<bool, Memory>
         requires unended { IsOpen self.old.bytes self.old.line_start self.old.lines }
         requires room { length self.old.bytes + 1 < 2 ^ 32 }
         ensures bytes { IfOk result (λ _. self.new.bytes ≡ self.old.bytes ++ byte ∷ []) }
@@ -52,6 +62,35 @@ impl Front {
         }
         self.line_start = self.bytes.len();
         self.lines += 1;
+        Ok(false)
+    }
+
+    /// For how many bytes the part goes on at least, where any more come.
+    pub fn reach(&self) -> usize
+        requires unended { IsOpen self.now.bytes self.now.line_start self.now.lines }
+        ensures some { 0 < result }
+        ensures few { result ≤ 4 }
+        ensures within { Reaches self.now.bytes result }
+    {
+        let [first, ..] = self.line() else {
+            return 1;
+        };
+        if begins_other(*first) { MAX_REACH } else { 1 }
+    }
+
+    /// Puts the next bytes behind the others, and answers whether the part ends with them.
+    pub fn put(&mut self, next: &[u8]) -> Result<bool, Memory>
+        requires unended { IsOpen self.old.bytes self.old.line_start self.old.lines }
+        requires reach { Reaches self.old.bytes (length next.now) }
+        requires room { length self.old.bytes + length next.now < 2 ^ 32 }
+        ensures bytes { IfOk result (λ _. self.new.bytes ≡ self.old.bytes ++ next.now) }
+        ensures ends { IfOk result (λ ends. MatchBool ends (IsClosed self.new.bytes) (IsOpen self.new.bytes self.new.line_start self.new.lines)) }
+    {
+        for byte in next {
+            if self.push(*byte)? {
+                return Ok(true);
+            }
+        }
         Ok(false)
     }
 

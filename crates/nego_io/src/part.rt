@@ -4,7 +4,7 @@ ghost use Rattle.nego_io.specs.Part.{reading, Whole};
 ghost use Rattle.nego_io.specs.Answer.{Answers, PartHasCause};
 ghost use Rattle.nego_io.specs.declared.part.ReadAnswer.TheVariants.{ReadFault, Memory as Starved};
 
-use crate::front::Front;
+use crate::front::{Front, MAX_REACH};
 use crate::{Failed, Source};
 use nego_base::{Memory, Text};
 use std::alloc::Global;
@@ -49,22 +49,8 @@ impl From<Memory> for ReadAnswer {
     }
 }
 
-/// The next byte, or None at the end of input.
-fn take_byte<S: Source>(source: &mut S) -> Result<Option<u8>, Failed>
-    ensures taken { IfOk result (λ byte. Takes (option_to_list byte) (S.left source.old) (S.left source.new)) }
-    ensures end { IfOk result (λ byte. byte ≡ None → WhereTold (S.left source.old) (S.left source.new) (λ before _. before ≡ [])) }
-    ensures err { OnErr result (Takes [] (S.left source.old) (S.left source.new)) }
-    ensures cause { HasCause (S.faults source.old) (S.faults source.new) result }
-{
-    let mut buf = [0u8; 1];
-    if source.take(&mut buf)? == 0 {
-        return Ok(None);
-    }
-    Ok(Some(buf[0]))
-}
-
-/// Reads the part that the input begins with, a byte at a time, and leaves what is behind it, also where a call fails or
-/// memory is wanted. It takes at most `limit + 1` bytes. Programs take all their input so.
+/// Reads the part that the input begins with, in pieces of which each byte belongs to it, and leaves what is behind it,
+/// also where a call fails or memory is wanted. It takes at most `limit + 1` bytes. Programs take all their input so.
 pub fn read_part<S: Source>(alloc: Global, source: &mut S, limit: u32) -> Result<Part, ReadAnswer>
     requires { limit < 2 ^ 32 - 1 }
     // Where the source tells, each answer has its cause in what was left.
@@ -76,16 +62,19 @@ pub fn read_part<S: Source>(alloc: Global, source: &mut S, limit: u32) -> Result
     ensures later { S.faults source.old ≤ S.faults source.new }
 {
     let mut front = Front::new(alloc);
-    for _ in 0..limit {
-        let Some(byte) = take_byte(source)? else {
+    let mut buf = [0u8; MAX_REACH];
+    loop {
+        let room = limit as usize + 1 - front.bytes.len();
+        let most = front.reach().min(room);
+        let count = source.take(&mut buf[..most])?;
+        if count == 0 {
             return front.finish();
-        };
-        if front.push(byte)? {
+        }
+        if count == room {
+            return Err(ReadAnswer::TooLong);
+        }
+        if front.put(&buf[..count])? {
             return Ok(Part { bytes: front.bytes });
         }
-    }
-    match take_byte(source)? {
-        None => front.finish(),
-        Some(_) => Err(ReadAnswer::TooLong),
     }
 }
