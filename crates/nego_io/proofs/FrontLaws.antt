@@ -1,7 +1,7 @@
 -- Laws of the bytes that were read of a part that has not come to its end.
 use Rattle.std.proofs.Common.{◌≡◌, ℕ, ◌+◌, ◌≤◌, Bool, true, false, cond, List, [], ◌∷◌, ◌++◌, length, take, drop, Option, Some, None, option_map, refl, sym, ◌∙◌, ap, append_assoc, zero-le, arith}
 use Rattle.std.specs.List.{list_any}
-use Rattle.std.proofs.lemmas.Bool.{or_from, cond-true, cond-false}
+use Rattle.std.proofs.lemmas.Bool.{or_from, or_parts, cond-true, cond-false}
 use Rattle.std.proofs.lemmas.List.{length-append, take-append-drop, take-append-le, drop-append-le, take_all, drop_all}
 use Rattle.std.proofs.lemmas.List.Folds.{list_any-append}
 use Rattle.std.proofs.lemmas.List.Sums.{sum_by-append}
@@ -24,8 +24,8 @@ behind_two : (front line : List ℕ) (o : Option (List ℕ)) → option_map (λ 
 behind_two front line None = refl
 behind_two front line (Some part) = ap Some (sym (append_assoc front line part))
 
-free_push : (bytes : List ℕ) (b : ℕ) → HasNoNewline bytes → is_newline b ≡ false → HasNoNewline (bytes ++ b ∷ [])
-free_push bytes b free h = list_any-append is_newline bytes (b ∷ []) ∙ or_from _ _ free (or_from _ _ h refl)
+free_append : (front back : List ℕ) → HasNoNewline front → HasNoNewline back → HasNoNewline (front ++ back)
+free_append front back free more = list_any-append is_newline front back ∙ or_from _ _ free more
 
 one : (b : ℕ) → newlines (b ∷ []) ≡ cond (is_newline b) 1 0
 one b = grind arith
@@ -33,22 +33,31 @@ one b = grind arith
 newlines-push : (bytes : List ℕ) (b : ℕ) → newlines (bytes ++ b ∷ []) ≡ newlines bytes + cond (is_newline b) 1 0
 newlines-push bytes b = sum_by-append (λ x. cond (is_newline x) 1 0) bytes (b ∷ []) ∙ ap (λ n. newlines bytes + n) (one b)
 
+newlines-none : (bytes : List ℕ) → HasNoNewline bytes → newlines bytes ≡ 0
+newlines-none [] free = refl
+newlines-none (b ∷ bs) free =
+    let parts = or_parts (is_newline b) (list_any is_newline bs) free in
+    sum_by-append (λ x. cond (is_newline x) 1 0) (b ∷ []) bs ∙ rw (newlines-none bs parts.1, one b, parts.0) refl
+
 -- nothing was read
 pub open_empty : IsOpen [] 0 0
 open_empty = record { within = zero-le; passes = λ rest. same_option (part_of rest); unfinished = refl; counted = refl }
 
+-- more bytes of the present line
+pub open_more : (bytes : List ℕ) (start lines : ℕ) (next : List ℕ) → IsOpen bytes start lines → HasNoNewline next → IsOpen (bytes ++ next) start lines
+open_more bytes start lines next before free =
+    let within : start ≤ length bytes = before.within in
+    let counts : newlines (bytes ++ next) ≡ newlines bytes + newlines next = sum_by-append (λ x. cond (is_newline x) 1 0) bytes next in
+    record {
+      within = omega (arith, length-append bytes next);
+      passes = rw take-append-le before.passes;
+      unfinished = ap (list_any is_newline) (drop-append-le start bytes next within) ∙ free_append (drop start bytes) next before.unfinished free;
+      counted = omega (arith, before.counted, counts, newlines-none next free);
+    }
+
 -- one more byte of the present line
 pub open_push : (bytes : List ℕ) (start lines b : ℕ) → IsOpen bytes start lines → is_newline b ≡ false → IsOpen (bytes ++ b ∷ []) start lines
-open_push bytes start lines b before h =
-    let within : start ≤ length bytes = before.within in
-    let none : cond {A = ℕ} (is_newline b) 1 0 ≡ 0 = cond-false _ 1 0 h in
-    let counts : newlines (bytes ++ b ∷ []) ≡ newlines bytes + cond (is_newline b) 1 0 = newlines-push bytes b in
-    record {
-      within = omega (arith, length-append bytes (b ∷ []));
-      passes = rw take-append-le before.passes;
-      unfinished = ap (list_any is_newline) (drop-append-le start bytes (b ∷ []) within) ∙ free_push (drop start bytes) b before.unfinished h;
-      counted = omega (arith, before.counted, counts, none);
-    }
+open_push bytes start lines b before h = open_more bytes start lines (b ∷ []) before (or_from _ _ h refl)
 
 -- the present line with its newline stands behind the lines before it
 present : (bytes : List ℕ) (start : ℕ) → bytes ++ 10 ∷ [] ≡ take start bytes ++ (drop start bytes ++ 10 ∷ [])

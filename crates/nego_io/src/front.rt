@@ -86,6 +86,10 @@ impl Front {
         ensures bytes { IfOk result (λ _. self.new.bytes ≡ self.old.bytes ++ next.now) }
         ensures ends { IfOk result (λ ends. MatchBool ends (IsClosed self.new.bytes) (IsOpen self.new.bytes self.new.line_start self.new.lines)) }
     {
+        if !next.contains(&b'\n') {
+            self.bytes.extend_from_slice(next)?;
+            return Ok(false);
+        }
         for byte in next {
             if self.push(*byte)? {
                 return Ok(true);
