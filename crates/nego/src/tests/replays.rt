@@ -213,7 +213,7 @@ end
         Call {
             status: 5,
             input: SET,
-            source_fails: &[74],
+            source_fails: &[23],
             out: b"",
             err: b"read fault\n",
             left: b"certificate 1\nend\n",

@@ -506,7 +506,7 @@ end
             status: 5,
             words: "run 0",
             input: SET,
-            source_fails: &[74],
+            source_fails: &[23],
             err: b"read fault\n",
             left: b"schedule 1\nend\n",
             ..PLAYED
