@@ -166,6 +166,10 @@ impl Disks for MemDisks {
         // It fails exactly where its number is listed or the fuse is reached.
         ensures fails { is_err result ≡ must_fail i self.old.calls }
         ensures state { self.new ≡ after_look i (is_ok result) self.old }
+
+        // Of the buffer it changes the bytes read alone.
+        ensures buffer { IfOk result (λ n. buf.new ≡ take n (drop at (content_now self.old i)) ++ drop n buf.old) }
+        ensures unchanged { OnErr result (buf.new ≡ buf.old) }
     {
         if self.calls.begin(i) {
             return Err(self.calls.fail(i));
