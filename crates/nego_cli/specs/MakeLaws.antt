@@ -1,4 +1,4 @@
--- That what `make` prints is a diagram for every other command.
+-- That what `make` prints begins with a diagram that is deterministic, acyclic and sound.
 use Rattle.std.specs.Prelude.{◌≡◌, ◌↔◌, ℕ, ◌≤◌, List, [], ◌∷◌, ◌++◌, length}
 use Rattle.nego_model.specs.Negotiation.{IsDeterministic}
 use Rattle.nego_model.specs.Acyclic.{IsAcyclic}
@@ -16,7 +16,7 @@ use Rattle.nego_cli.specs.Commands.{TextOf}
 use Rattle.nego_cli.specs.Certificate.{reduction_text}
 use Rattle.nego_cli.specs.Make.{made_diagram, made_line}
 
--- The text is a part and a line behind it. Whatever stands behind the part, a command that reads a diagram reads this part,
+-- The text is a part and a line behind it. Whatever stands behind the part, the first part that is read is this one,
 -- which spells the diagram of n atoms; and this one is deterministic, acyclic and sound. `reduce` tells one text of it, that it
 -- is sound, and the line's last numbers are of this text: that of its uses, and that of its nodes.
 pub record IsMadeInput (n : ℕ) (text : List ℕ) : Type 0 where

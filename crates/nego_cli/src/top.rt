@@ -21,8 +21,8 @@ use nego_io::{Sink, Source};
 use std::alloc::Global;
 use std::sync::ledger::Ledger;
 
-/// Does what the words say: takes its parts from the source, and puts a text on `out` or a line on `err`. The steps count
-/// the guards that are tested; a caller that counts nothing hands in a fresh counter.
+/// Does what the words say: takes its parts from the source, and puts a text on `out` or a line on `err`. The steps are
+/// for the guards that are tested, and no clause here says how many; a caller that counts nothing hands in a fresh counter.
 pub fn nego<S: Source, O: Sink, E: Sink, C: Ledger>(
     alloc: Global,
     words: &[Text],
