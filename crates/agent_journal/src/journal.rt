@@ -1,5 +1,5 @@
 //! An agent's journal.
-ghost use Rattle.std.specs.Prelude.{◌≡◌, ℕ, ◌<◌, ◌≤◌, ◌+◌, ◌*◌, ◌++◌, ◌∷◌, [], ◌↔◌, ◌⊎◌, false, true, All, length, take, List, IsTrue, IfOk, IfErr, OnOk, OnErr};
+ghost use Rattle.std.specs.Prelude.{◌≡◌, ℕ, ◌<◌, ◌≤◌, ◌+◌, ◌*◌, ◌++◌, ◌∷◌, [], ◌↔◌, ◌⊎◌, false, true, All, length, take, List, IsTrue, IfOk, IfErr, OnOk};
 ghost use Rattle.nego_io.specs.Disks.{LeavesOnly, AreCallsOn, HasContent, overwritten};
 ghost use Rattle.agent_msg.specs.Records.{PlainRecord, entry, entries, IsTidy};
 ghost use Rattle.agent_msg.specs.Bytes.{RecordFits, entry_bytes};

@@ -1,9 +1,9 @@
 //! The slots of a journal on a disk: a gate, the 127 bytes of a record, and so on.
-ghost use Rattle.std.specs.Prelude.{◌≡◌, ℕ, ◌<◌, ◌≤◌, ◌+◌, ◌*◌, ◌++◌, ◌∷◌, [], All, length, drop, take, slice_get, IsTrue, IfSome, IfOk, IfErr, OnOk, Some};
+ghost use Rattle.std.specs.Prelude.{◌≡◌, ◌<◌, ◌≤◌, ◌+◌, ◌*◌, ◌++◌, ◌∷◌, [], All, length, drop, take, IsTrue, IfSome, IfOk, IfErr, OnOk, Some};
 ghost use Rattle.nego_io.specs.Outside.{HasCause};
-ghost use Rattle.nego_io.specs.Disks.{LeavesOnly, Follows, AreCallsOn, HasContent, IsRead, IsSynced, overwritten, Torn, Ragged};
+ghost use Rattle.nego_io.specs.Disks.{LeavesOnly, AreCallsOn, HasContent, IsRead, IsSynced, overwritten, Torn, Ragged};
 ghost use Rattle.agent_msg.specs.Records.{entry, entries, IsTidy};
-ghost use Rattle.agent_msg.specs.Bytes.{RecordFits, entry_bytes};
+ghost use Rattle.agent_msg.specs.Bytes.{entry_bytes};
 ghost use Rattle.agent_journal.specs.Slots.{kept, StandsFor, Closes, SaysFirst};
 ghost use Rattle.agent_journal.specs.Journal.{IsSettled, KeepsAll, KeepsOrAdds, LoadFails, SlotFails};
 

@@ -1,5 +1,5 @@
 //! Messages as bytes.
-ghost use Rattle.std.specs.Prelude.{◌≡◌, ◌/◌, ◌↔◌, ◌∷◌, ◌++◌, [], IsTrue, Some, option_map, replicate};
+ghost use Rattle.std.specs.Prelude.{◌≡◌, ◌↔◌, ◌∷◌, ◌++◌, IsTrue, Some, option_map, replicate};
 ghost use Rattle.agent_msg.specs.Messages.{Message, message};
 ghost use Rattle.agent_msg.specs.Bytes.{low_byte, two_bytes, message_bytes, MessageFits, SpellsMessage};
 

@@ -3,7 +3,6 @@
 ghost use Rattle.std.specs.Prelude.{◌≡◌, ◌<◌, [], ◌++◌, length, map, IfOk, OnOk};
 ghost use Rattle.nego_base.specs.Appending.{Appends};
 ghost use Rattle.nego_expr.specs.UseView.{plain_use};
-ghost use Rattle.nego_reduce.specs.Reducing.{uses_of};
 ghost use Rattle.nego_cert.specs.CertificateText.{certificate_text};
 ghost use Rattle.nego_cli.specs.Certificate.{left_line, left_lines, reduced_text};
 ghost use Rattle.nego_cli.specs.Verdict.{verdict_line};

@@ -1,6 +1,6 @@
 //! `check`: the form of a diagram.
 
-ghost use Rattle.std.specs.Prelude.{◌≡◌, [], IfOk, IfErr};
+ghost use Rattle.std.specs.Prelude.{[], IfOk, IfErr};
 ghost use Rattle.nego_cli.specs.Check.{CheckTurn, CheckText};
 ghost use Rattle.nego_cli.specs.Dispatch.{HasNoText};
 ghost use Rattle.nego_cli.specs.Turn.{TellsText};

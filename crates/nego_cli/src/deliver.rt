@@ -2,8 +2,7 @@
 
 ghost use Rattle.std.specs.Prelude.{◌≡◌, ◌⊎◌, ◌≤◌, IfErr, IfOk, OnErr};
 ghost use Rattle.nego_cli.specs.Effect.{effect};
-ghost use Rattle.nego_cli.specs.Refusals.{IsNamed};
-ghost use Rattle.nego_cli.specs.Answer.{failure_line, failure_status};
+ghost use Rattle.nego_cli.specs.Answer.{failure_line};
 ghost use Rattle.nego_cli.specs.Delivery.{IsTextPut, IsLinePut, IsFailurePut, IsDelivered, FailureIsNamed};
 
 use crate::Status;

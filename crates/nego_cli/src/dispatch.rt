@@ -1,8 +1,8 @@
 //! Finds the answer of a command, which is still to be written.
 
-ghost use Rattle.std.specs.Prelude.{◌≡◌, ◌≤◌, None, Some};
+ghost use Rattle.std.specs.Prelude.{◌≡◌, ◌≤◌, Some};
 ghost use Rattle.nego_cli.specs.Effect.{effect};
-ghost use Rattle.nego_cli.specs.Commands.{parts_of, asked, most_parts};
+ghost use Rattle.nego_cli.specs.Commands.{asked, most_parts};
 ghost use Rattle.nego_cli.specs.Answer.{IsFound};
 ghost use Rattle.nego_cli.specs.Dispatch.{IsAnswer};
 ghost use Rattle.nego_cli.specs.Make.{HasSize};

@@ -1,7 +1,6 @@
 //! The text that tells the form of a diagram.
 
 ghost use Rattle.std.specs.Prelude.{◌<◌, ◌++◌, codes, length, IfOk, OnOk, IfSome, All};
-ghost use Rattle.nego_data.specs.Data.{data_count};
 ghost use Rattle.nego_model.specs.Diagram.{IsDiagram, atom_name};
 ghost use Rattle.nego_base.specs.Appending.{Appends};
 ghost use Rattle.nego_cli.specs.Check.{IsFormOf};

@@ -1,6 +1,6 @@
 //! Reads the parts of an input, and what they spell.
 
-ghost use Rattle.std.specs.Prelude.{◌≡◌, ◌<◌, ◌-◌, ◌^◌, [], ◌∷◌, length, IfOk, IfErr, ◌≤◌};
+ghost use Rattle.std.specs.Prelude.{◌<◌, ◌-◌, ◌^◌, [], ◌∷◌, length, IfOk, IfErr, ◌≤◌};
 ghost use Rattle.nego_reader.specs.Content.{content_of};
 ghost use Rattle.nego_shape.specs.Shaped.{HasNameWords};
 ghost use Rattle.nego_cli.specs.Effect.{effect};

@@ -1,6 +1,6 @@
 //! `reduce`: the reduction of a diagram.
 
-ghost use Rattle.std.specs.Prelude.{◌≡◌, [], IfOk, IfErr};
+ghost use Rattle.std.specs.Prelude.{[], IfOk, IfErr};
 ghost use Rattle.nego_cli.specs.Turn.{TellsText};
 ghost use Rattle.nego_cli.specs.Dispatch.{HasNoText};
 ghost use Rattle.nego_cli.specs.Reduce.{ReduceTurn, ReduceText};

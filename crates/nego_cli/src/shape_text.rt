@@ -1,6 +1,6 @@
 //! The words of a fault of shape.
 
-ghost use Rattle.std.specs.Prelude.{◌≡◌, ◌++◌, ◌<◌, codes, Some, None, IfOk, OnOk};
+ghost use Rattle.std.specs.Prelude.{◌≡◌, ◌++◌, ◌<◌, Some, None, OnOk};
 ghost use Rattle.nego_data.specs.Data.{data_count, split};
 ghost use Rattle.nego_data.specs.Sizes.{AreSizes};
 ghost use Rattle.nego_model.specs.Diagram.{agent_name, atom_name, outcome_name, atom_of};

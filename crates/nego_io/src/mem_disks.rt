@@ -1,5 +1,5 @@
 //! Disks over memory.
-ghost use Rattle.std.specs.Prelude.{◌≡◌, ℕ, ◌<◌, ◌≤◌, ◌+◌, ◌^◌, min, length, take, drop, ◌++◌, [], ◌∷◌, is_ok, is_err, IsErr, IsTrue, IfOk, OnOk, OnErr, Some, None};
+ghost use Rattle.std.specs.Prelude.{◌≡◌, ◌<◌, ◌≤◌, ◌+◌, ◌^◌, min, length, take, drop, ◌++◌, [], ◌∷◌, is_ok, is_err, IsErr, IsTrue, IfOk, OnOk, OnErr, Some, None};
 ghost use Rattle.nego_io.specs.Outside.{HasCause};
 ghost use Rattle.nego_io.specs.Disks.{LeavesNow, LeavesOnly, IsRead, Follows, AreCallsOn, HasContent, IsSynced, overwritten, Torn, Shortened, Ragged};
 ghost use Rattle.nego_io.specs.MemDisks.{told_of, content_now, disk_now, must_fail, no_disk_calls, after_look, after_make, filled};

@@ -1,4 +1,4 @@
-ghost use Rattle.std.specs.Prelude.{◌≡◌, ℕ, ◌≤◌, ◌+◌, ◌-◌, ◌^◌, ◌↔◌, ◌⊎◌, not, ◌&&◌, if◌then◌else◌, is_err, IsErr, IsTrue, IfOk, OnErr, IsOkAnd, [], length, take, Some};
+ghost use Rattle.std.specs.Prelude.{◌≡◌, ◌≤◌, ◌-◌, not, ◌&&◌, if◌then◌else◌, is_err, IsErr, IsTrue, IfOk, OnErr, IsOkAnd, [], length, take, Some};
 ghost use Rattle.nego_base.specs.Members.{is_in};
 ghost use Rattle.nego_io.specs.Outside.{PutHasCause, Puts, next_count};
 ghost use Rattle.nego_io.specs.Calls.{after_call, no_calls};

@@ -1,4 +1,4 @@
-ghost use Rattle.std.specs.Prelude.{◌≡◌, ℕ, ◌<◌, ◌≤◌, ◌↔◌, min, is_err, IsErr, IsTrue, IfOk, OnErr, [], ◌++◌, length, take, drop, Some};
+ghost use Rattle.std.specs.Prelude.{◌≡◌, ◌<◌, ◌≤◌, ◌↔◌, min, is_err, IsErr, IsTrue, IfOk, OnErr, [], ◌++◌, length, take, drop, Some};
 ghost use Rattle.nego_base.specs.Members.{is_in};
 ghost use Rattle.nego_io.specs.Outside.{HasCause, WhereTold, Takes};
 ghost use Rattle.nego_io.specs.Calls.{after_call, no_calls};

@@ -1,5 +1,5 @@
-ghost use Rattle.std.specs.Prelude.{◌≡◌, ℕ, ◌-◌, ◌^◌, ◌<◌, ◌≤◌, List, [], Option, None, IfOk, OnErr, option_to_list, length};
-ghost use Rattle.nego_io.specs.Outside.{HasCause, WhereTold, Takes};
+ghost use Rattle.std.specs.Prelude.{◌≡◌, ◌-◌, ◌^◌, ◌<◌, ◌≤◌, [], IfOk, length};
+ghost use Rattle.nego_io.specs.Outside.{WhereTold};
 ghost use Rattle.nego_io.specs.Part.{reading, Whole};
 ghost use Rattle.nego_io.specs.Answer.{Answers, PartHasCause};
 ghost use Rattle.nego_io.specs.declared.part.ReadAnswer.TheVariants.{ReadFault, Memory as Starved};

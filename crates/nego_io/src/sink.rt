@@ -1,4 +1,4 @@
-ghost use Rattle.std.specs.Prelude.{◌≡◌, ℕ, ◌≤◌, List, [], length, take, Option, IfOk, OnErr};
+ghost use Rattle.std.specs.Prelude.{ℕ, ◌≤◌, List, [], length, take, Option, IfOk, OnErr};
 ghost use Rattle.nego_io.specs.Outside.{PutHasCause, Puts};
 
 use crate::Failed;

@@ -1,5 +1,5 @@
 //! The outcomes of an atom, and where they send its parties.
-ghost use Rattle.std.specs.Prelude.{◌≡◌, ◌<◌, [], ◌∷◌, map, codes, slice_index, IfOk};
+ghost use Rattle.std.specs.Prelude.{◌≡◌, ◌<◌, [], ◌∷◌, map, codes, IfOk};
 ghost use Rattle.nego_reader.specs.Content.{PlusTerm, texts, term_content, set_content, next_content, out_content};
 ghost use Rattle.nego_make.specs.Generated.{agent_name, movers, next_line, next_lines, outcome, assign, two_ways, endings, outcomes};
 

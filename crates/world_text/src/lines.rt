@@ -1,6 +1,6 @@
 //! What one line of a schedule says.
 
-ghost use Rattle.std.specs.Prelude.{◌≡◌, ◌<◌, ◌^◌, ◌-◌, length};
+ghost use Rattle.std.specs.Prelude.{◌≡◌, ◌<◌, ◌-◌};
 ghost use Rattle.std.specs.Option.{option_map};
 ghost use Rattle.nego_base.specs.LineAnswers.{Tells, FitsLine};
 ghost use Rattle.std.specs.Prelude.{find};
