@@ -17,3 +17,4 @@ pub mod NoOffsets
 pub mod Identity
 pub mod DataSets
 pub mod Lending
+pub mod Assignments

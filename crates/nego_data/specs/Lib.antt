@@ -12,3 +12,4 @@ pub mod CaseForm
 pub mod Given
 pub mod Locality
 pub mod Covered
+pub mod Assignments

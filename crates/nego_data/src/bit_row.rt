@@ -3,6 +3,8 @@ ghost use Rattle.std.specs.Prelude.{◌≡◌, ℕ, ◌/◌, ◌%◌, ◌<◌, �
 ghost use Rattle.std.specs.Int.{bit_at};
 ghost use Rattle.nego_data.specs.BitRows.{is_set, is_moved, word_below};
 
+use crate::data_set::first_besides;
+
 /// The bits of a word.
 pub(crate) const WORD_BITS: usize = 64;
 
@@ -56,6 +58,13 @@ impl BitRow {
         ensures { (e : ℕ) → e < 1024 → is_set self.new.words e ≡ (is_set self.old.words e || is_set other.now.words e) }
     {
         other.add_moved(0, &mut self.words);
+    }
+
+    /// Whether all that is in the set is in the other too.
+    pub(crate) fn is_within(&self, other: &BitRow) -> bool
+        ensures { result ≡ true → (e : ℕ) → e < 1024 → is_set self.now.words e ≡ true → is_set other.now.words e ≡ true }
+    {
+        first_besides(&self.words, &other.words, 0).is_none()
     }
 
     /// Puts e into the set.

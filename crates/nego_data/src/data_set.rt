@@ -120,7 +120,7 @@ fn unite(words: &mut [u64; WORDS], others: &[u64; WORDS])
 }
 
 /// The least number from one on that is in the words and not in the others.
-fn first_besides(words: &[u64; WORDS], others: &[u64; WORDS], from: u16) -> Option<u16>
+pub(crate) fn first_besides(words: &[u64; WORDS], others: &[u64; WORDS], from: u16) -> Option<u16>
     requires { from ≤ 1024 }
     ensures { MatchOption result (IsNoneBesides (is_set words.now) (is_set others.now) from 1024) (IsLeastBesides (is_set words.now) (is_set others.now) from 1024) }
 {

@@ -1,6 +1,7 @@
 //! Joint data of the agents, the cases of outcomes, and the tables of the relations that they are.
 #![tactic(auto)]
 
+mod applied;
 mod bit_row;
 pub mod cases;
 mod covered;

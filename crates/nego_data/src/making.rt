@@ -1,5 +1,5 @@
 //! The table of an outcome's cases.
-ghost use Rattle.std.specs.Prelude.{◌≡◌, ◌≢◌, ℕ, ◌<◌, ◌&&◌, ◌||◌, ◌==◌, [], ◌∷◌, length, map, All, IsTrue, IfOk, IfErr, IfSome};
+ghost use Rattle.std.specs.Prelude.{◌≡◌, ◌≢◌, ℕ, ◌<◌, ◌≤◌, ◌&&◌, ◌||◌, ◌==◌, [], ◌∷◌, length, map, All, IsTrue, IfOk, IfErr, IfSome};
 ghost use Rattle.nego_data.specs.Data.{data_count};
 ghost use Rattle.nego_data.specs.Tables.{IsTable, is_related};
 ghost use Rattle.nego_data.specs.Cases.{covers, relates, rows_of};
@@ -8,9 +8,11 @@ ghost use Rattle.std.specs.List.{list_all, range_with_len};
 ghost use Rattle.nego_data.specs.Given.{is_above};
 ghost use Rattle.nego_data.specs.Sizes.{tuple_of};
 ghost use Rattle.nego_data.specs.Covered.{AreThose, keep_all, keeps_all};
+ghost use Rattle.nego_data.specs.Assignments.{IsApplied};
 ghost use Rattle.nego_data.specs.Locality.{ActsOn};
 ghost use Rattle.nego_data.specs.declared.making.TableFault.TheVariants.{Memory as Starved};
 
+use crate::applied::{Applied, applied_to, keep_applied};
 use crate::bit_row::BitRow;
 use crate::cases::Case;
 use crate::covered::{has_all, those_covered};
@@ -86,11 +88,12 @@ fn part_rows(alloc: Global, part: &Sizes, cases: &[Case]) -> Result<Option<Rows>
     let values = all_values(alloc, part)?;
     let mut rows = Rows::empty(alloc, part.all())?;
     let mut known = Seq::new(alloc);
+    let mut applied = Seq::new(alloc);
     let mut covered = BitRow::none();
     for case in cases {
         let those = those_covered(&mut known, part, values.as_slice(), case);
         covered.add(&those);
-        add_case(&mut rows, part, values.as_slice(), case, &those);
+        add_new(&mut rows, &mut applied, part, values.as_slice(), case, &those);
     }
     if !has_all(part, &covered) {
         return Ok(None);
@@ -127,6 +130,35 @@ fn all_values(alloc: Global, sizes: &Sizes) -> Result<Seq<[u16; 16]>, Memory>
         values.push(sizes.split(d))?;
     }
     Ok(values)
+}
+
+/// Relates what the case relates too, as `add_case` does, where its assignments weren't applied to all those before.
+fn add_new<'a>(
+    rows: &mut Rows,
+    applied: &mut Seq<Applied<'a>>,
+    sizes: &Sizes,
+    values: &[[u16; 16]],
+    case: &'a Case,
+    those: &BitRow,
+)
+    requires few { data_count sizes.now ≤ 1024 }
+    requires values { values.now ≡ map (tuple_of sizes.now) (range_with_len 0 (data_count sizes.now)) }
+    requires named { IsNamedBelow (length sizes.now) case.now }
+    requires once { AssignsOnce case.now }
+    requires fits { AssignsBelow sizes.now case.now }
+    requires those { AreThose sizes.now (covers case.now) those.now.words }
+    requires table { IsTable (data_count sizes.now) rows.old }
+    requires applied { All (IsApplied sizes.now rows.old) applied.old }
+    ensures table { IsTable (data_count sizes.now) rows.new }
+    ensures related { (d e : ℕ) → d < data_count sizes.now → e < data_count sizes.now →
+        is_related rows.new d e ≡ (is_related rows.old d e || relates sizes.now (case.now ∷ []) d e) }
+    ensures applied { All (IsApplied sizes.now rows.new) applied.new }
+{
+    if those.is_within(&applied_to(applied.as_slice(), case)) {
+        return;
+    }
+    add_case(rows, sizes, values, case, those);
+    keep_applied(applied, case, those);
 }
 
 /// Relates what the case relates too, in a table of the sizes' joint data, of which it covers those.

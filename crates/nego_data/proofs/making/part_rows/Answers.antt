@@ -25,8 +25,8 @@ returns-then-keep_all-clause-rows c =
 pub returns-then-keep_all-clause-covered : goal.returns-then-keep_all-clause-covered
 returns-then-keep_all-clause-covered c = keep_all-covers c.args.part.now c.args.cases.now (sym c.keep_all.ensures ∙ c.if-keep_all.true)
 
-pub add_case-requires-clause-named : goal.add_case-requires-clause-named
-add_case-requires-clause-named c = subst (IsNamedBelow (length c.args.part.now)) (sym c.case-item.is) (c.requires.named c.loop-case.case-index c.case-item.result c.loop-case-test.true)
+pub add_new-requires-clause-named : goal.add_new-requires-clause-named
+add_new-requires-clause-named c = subst (IsNamedBelow (length c.args.part.now)) (sym c.case-item.is) (c.requires.named c.loop-case.case-index c.case-item.result c.loop-case-test.true)
 
 pub those_covered-those-requires-clause-agents : goal.those_covered-those-requires-clause-agents
 those_covered-those-requires-clause-agents c =
@@ -41,9 +41,9 @@ loop-case-preserved c =
     let i = c.loop-case.case-index in
     let before = c.loop-case.invariant in
     record {
-      table = c.add_case.ensures.table;
+      table = c.add_new.ensures.table;
       related = λ d e h k.
-          c.add_case.ensures.related d e h k
+          c.add_new.ensures.related d e h k
           ∙ ap (λ b. b || relates part (case ∷ []) d e) (before.related d e h k)
           ∙ sym (relates_more part cases i d e case c.loop-case-test.true c.case-item.is);
       covered = λ d h.
@@ -51,6 +51,7 @@ loop-case-preserved c =
           ∙ ap₂ ◌||◌ (before.covered d h) (c.those_covered-those.ensures.covered d h)
           ∙ sym (covers_more (tuple_of part d) cases i case c.loop-case-test.true c.case-item.is);
       known = c.those_covered-those.ensures.known;
+      applied = c.add_new.ensures.applied;
     }
 
 pub returns-clause-rows : goal.returns-clause-rows
