@@ -18,3 +18,4 @@ pub mod Identity
 pub mod DataSets
 pub mod Lending
 pub mod Assignments
+pub mod CountingUp

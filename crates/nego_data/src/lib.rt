@@ -4,6 +4,7 @@
 mod applied;
 mod bit_row;
 pub mod cases;
+mod counting;
 mod covered;
 mod covering;
 mod data_set;

@@ -15,6 +15,7 @@ ghost use Rattle.nego_data.specs.declared.making.TableFault.TheVariants.{Memory 
 use crate::applied::{Applied, applied_to, keep_applied};
 use crate::bit_row::BitRow;
 use crate::cases::Case;
+use crate::counting::all_values;
 use crate::covered::{has_all, those_covered};
 use crate::covering::first_uncovered;
 use crate::giving::{free_agents, least_number, offsets};
@@ -119,17 +120,6 @@ fn keeps_all(case: &Case) -> bool
     ensures { result ≡ keeps_all case.now }
 {
     case.tests.is_empty() && case.sets.is_empty()
-}
-
-/// The values of all joint data, one after the other.
-fn all_values(alloc: Global, sizes: &Sizes) -> Result<Seq<[u16; 16]>, Memory>
-    ensures { IfOk result (λ values. values ≡ map (tuple_of sizes.now) (range_with_len 0 (data_count sizes.now))) }
-{
-    let mut values = Seq::new(alloc);
-    for d in 0..sizes.all() {
-        values.push(sizes.split(d))?;
-    }
-    Ok(values)
 }
 
 /// Relates what the case relates too, as `add_case` does, where its assignments weren't applied to all those before.
