@@ -1,7 +1,7 @@
 -- Laws of tuples that are counted up.
-use Rattle.std.proofs.Common.{◌≡◌, inl, inr, ℕ, zero, suc, ◌+◌, ◌-◌, ◌*◌, ◌<◌, ◌≤◌, List, [], ◌∷◌, length, drop, replicate, set, slice_index, refl, sym, subst, ap, ◌∙◌, arith}
+use Rattle.std.proofs.Common.{◌≡◌, inl, inr, ℕ, zero, suc, ◌+◌, ◌*◌, ◌<◌, ◌≤◌, List, [], ◌∷◌, length, drop, replicate, set, slice_index, refl, sym, subst, ap, ◌∙◌, arith}
 use Rattle.std.proofs.lemmas.Bool.{cases_eq, cases_lt}
-use Rattle.std.proofs.lemmas.List.{get_or-set_same, get_or-set_other, length-set, get_or-replicate, get_or_past, length-replicate}
+use Rattle.std.proofs.lemmas.List.{get_or-set_same, get_or-set_other, length-set, get_or-replicate, get_or_past}
 use Rattle.std.proofs.Math.Nat.{add-mul, one-mul}
 use Rattle.nego_data.specs.Data.{data_count, joint}
 use Rattle.nego_data.specs.Sizes.{AreSizes, IsTuple}
@@ -50,11 +50,14 @@ module _ (sizes : List ℕ) (ok : AreSizes sizes) where
 
   -- the tuple of the first joint data
   pub first-tuple : IsTuple sizes (replicate 16 0) × (joint sizes (replicate 16 0) ≡ 0)
-  first-tuple = (record {
-    sixteen = refl;
-    values = λ a h. subst (λ n. n < slice_index sizes a) (sym (get_or-replicate 16 a 0 0 (let few = ok.few_agents in omega (arith, h, few)))) ((ok.each a 0 h).0);
-    rest = λ a h. none a;
-  }, joint-zeros sizes 16)
+  first-tuple = (
+    record {
+      sixteen = refl;
+      values = λ a h. subst (λ n. n < slice_index sizes a) (sym (get_or-replicate 16 a 0 0 (let few = ok.few_agents in omega (arith, h, few)))) ((ok.each a 0 h).0);
+      rest = λ a h. none a;
+    },
+    joint-zeros sizes 16,
+  )
     where
       none : (a : ℕ) → slice_index (replicate 16 0) a ≡ 0
       none a = elim (cases_lt a 16) [

@@ -40,6 +40,9 @@ pub(crate) fn keep_applied<'a>(applied: &mut Seq<Applied<'a>>, case: &'a Case, t
         }
     }
     if applied.len() < MOST_APPLIED {
-        let _ = applied.push(Applied { case, those: *those });
+        let _ = applied.push(Applied {
+            case,
+            those: *those,
+        });
     }
 }

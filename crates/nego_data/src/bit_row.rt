@@ -57,7 +57,7 @@ impl BitRow {
     pub(crate) fn add(&mut self, other: &BitRow)
         ensures { (e : ℕ) → e < 1024 → is_set self.new.words e ≡ (is_set self.old.words e || is_set other.now.words e) }
     {
-        other.add_moved(0, &mut self.words);
+        other.add_to(&mut self.words);
     }
 
     /// Whether all that is in the set is in the other too.
@@ -90,8 +90,21 @@ impl BitRow {
         requires { length row.old ≤ 16 }
         ensures { (e : ℕ) → e / 64 < length row.old → is_set row.new e ≡ (is_set row.old e || is_moved self.now.words by e) }
     {
+        if by == 0 {
+            return self.add_to(row);
+        }
         for (place, word) in row.iter_mut().enumerate() {
             *word |= self.moved_word(place, by as usize);
+        }
+    }
+
+    /// Adds the set to the set that a row of words is.
+    fn add_to(&self, row: &mut [u64])
+        requires { length row.old ≤ 16 }
+        ensures { (e : ℕ) → e / 64 < length row.old → is_set row.new e ≡ (is_set row.old e || is_set self.now.words e) }
+    {
+        for (place, word) in row.iter_mut().enumerate() {
+            *word |= self.words[place];
         }
     }
 

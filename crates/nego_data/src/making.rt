@@ -94,7 +94,14 @@ fn part_rows(alloc: Global, part: &Sizes, cases: &[Case]) -> Result<Option<Rows>
     for case in cases {
         let those = those_covered(&mut known, part, values.as_slice(), case);
         covered.add(&those);
-        add_new(&mut rows, &mut applied, part, values.as_slice(), case, &those);
+        add_new(
+            &mut rows,
+            &mut applied,
+            part,
+            values.as_slice(),
+            case,
+            &those,
+        );
     }
     if !has_all(part, &covered) {
         return Ok(None);

@@ -1,5 +1,4 @@
-use Rattle.std.proofs.Common.{◌≡◌, ◌∙◌, true, List, ℕ, sym, subst}
-use Rattle.std.specs.List.{All}
+use Rattle.std.proofs.Common.{◌∙◌, sym, subst}
 use Rattle.nego_data.specs.Assignments.{IsApplied, IsAppliedTo}
 use Rattle.nego_data.proofs.Assignments.{same_sets}
 use Rattle.nego_data.proofs.applied.applied_to.Goals as goal

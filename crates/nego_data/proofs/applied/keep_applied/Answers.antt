@@ -1,7 +1,6 @@
-use Rattle.std.proofs.Common.{◌≡◌, ◌∙◌, true, List, ℕ, get_or, length, sym, subst, ap, arith}
+use Rattle.std.proofs.Common.{◌≡◌, ◌∙◌, get_or, length, sym, subst, ap, arith}
 use Rattle.std.specs.List.{All}
 use Rattle.std.proofs.lemmas.Option.{get_or_from_slice_get}
-use Rattle.nego_data.specs.declared.applied.Applied.{Applied}
 use Rattle.nego_data.specs.Assignments.{IsApplied, IsAppliedTo}
 use Rattle.nego_data.proofs.Assignments.{same_sets, applied_more, All-set, All-pushed}
 use Rattle.nego_data.proofs.applied.keep_applied.Goals as goal

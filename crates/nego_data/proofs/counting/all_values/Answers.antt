@@ -1,6 +1,6 @@
-use Rattle.std.proofs.Common.{◌≡◌, ◌+◌, ◌<◌, ◌∙◌, ◌++◌, [], ◌∷◌, refl, sym, ap, ap₂, List, ℕ, arith}
+use Rattle.std.proofs.Common.{◌≡◌, ◌+◌, ◌<◌, ◌∙◌, ◌++◌, [], ◌∷◌, sym, ap, ap₂, List, ℕ, arith}
 use Rattle.std.proofs.lemmas.List.FromFn.{map-range_with_len_more}
-use Rattle.nego_data.specs.Data.{data_count, joint}
+use Rattle.nego_data.specs.Data.{data_count}
 use Rattle.nego_data.specs.Sizes.{tuple_of}
 use Rattle.nego_data.proofs.CountingUp.{first-tuple}
 use Rattle.nego_data.proofs.Tuples.{tuple_of-joint}

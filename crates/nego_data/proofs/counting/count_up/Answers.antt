@@ -1,4 +1,4 @@
-use Rattle.std.proofs.Common.{◌≡◌, ◌+◌, ◌-◌, ◌<◌, ◌≤◌, length, drop, slice_index, sym, subst, arith}
+use Rattle.std.proofs.Common.{◌≡◌, ◌+◌, ◌-◌, ◌<◌, ◌≤◌, length, drop, slice_index, subst, arith}
 use Rattle.nego_data.specs.Data.{data_count, joint}
 use Rattle.nego_data.proofs.CountingUp.{counted_one, counted_over}
 use Rattle.nego_data.proofs.counting.count_up.Goals as goal

@@ -1,4 +1,4 @@
-use Rattle.std.proofs.Common.{◌∙◌, sym, subst}
+use Rattle.std.proofs.Common.{sym, subst}
 use Rattle.std.specs.List.{All}
 use Rattle.nego_data.specs.Assignments.{IsApplied}
 use Rattle.nego_data.proofs.Assignments.{nothing_new, still_applied, now_applied}
