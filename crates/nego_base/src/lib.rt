@@ -18,6 +18,7 @@ mod reading;
 mod reserved;
 mod scanning;
 mod seq;
+mod short_text;
 mod splitting;
 mod steps;
 #[cfg(test)]
@@ -39,5 +40,6 @@ pub use reading::missing_end;
 pub use reserved::Reserved;
 pub use scanning::scan;
 pub use seq::{Seq, Text};
+pub use short_text::ShortText;
 pub use splitting::{all_blank, from_word, line_body};
 pub use steps::Steps;

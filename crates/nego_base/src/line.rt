@@ -1,12 +1,12 @@
 //! Lines of a text, and their words.
-use crate::{Seq, Text};
+use crate::{Seq, ShortText};
 
 /// A word of a text: its line, the column of its first byte, and its bytes.
 #[derive(Debug, Drop)]
 pub struct Word {
     pub line: u32,
     pub column: u32,
-    pub text: Text,
+    pub text: ShortText,
 }
 
 /// A line that has words: its number in the text, its length without its end, and its words.

@@ -4,7 +4,7 @@ ghost use Rattle.nego_base.specs.LineAnswers.{FitsLine, Tells};
 ghost use Rattle.nego_base.specs.LineGrammar.{missing_end};
 ghost use Rattle.nego_base.specs.LineWalk.{word_in};
 
-use crate::{Fault, FaultKind, Line, Memory, Text, Word};
+use crate::{Fault, FaultKind, Line, Memory, ShortText, Word};
 use std::alloc::Global;
 
 impl Line {
@@ -26,7 +26,7 @@ impl Word {
         Ok(Word {
             line: self.line,
             column: self.column,
-            text: Text::copy(alloc, self.text.as_slice())?,
+            text: ShortText::copy(alloc, self.text.as_slice())?,
         })
     }
 }

@@ -4,7 +4,7 @@ ghost use Rattle.nego_base.specs.Lines.{lines, is_blank};
 ghost use Rattle.nego_base.specs.Scan.{is_comment, may_stand, bad_byte, line_fault, scan_fault, line_if_kept, words_at, scanned, count_lines, ScanHasCause};
 
 use crate::splitting::{all_blank, cut_line, cut_word, from_word, is_blank, line_body};
-use crate::{Fault, FaultKind, Line, Lines, Memory, ScanAnswer, Seq, Text, Word};
+use crate::{Fault, FaultKind, Line, Lines, Memory, ScanAnswer, Seq, ShortText, Word};
 use std::alloc::Global;
 
 /// The most bytes that a line has without its end.
@@ -107,7 +107,7 @@ fn words_of(alloc: Global, number: u32, line: &[u8]) -> Result<Seq<Word>, Memory
         words.push(Word {
             line: number,
             column,
-            text: Text::copy(alloc, word)?,
+            text: ShortText::copy(alloc, word)?,
         })?;
         rest = from_word(after);
     }

@@ -3,7 +3,7 @@ ghost use Rattle.std.specs.Prelude.{◌≡◌, ◌∷◌, map, decimal, IfOk};
 ghost use Rattle.nego_reader.specs.Content.{texts};
 ghost use Rattle.nego_make.specs.Generated.{agent_name, atom_name};
 
-use nego_base::{Memory, Seq, Text, Word};
+use nego_base::{Memory, Seq, ShortText, Text, Word};
 use std::alloc::Global;
 
 /// The bytes as a word.
@@ -13,7 +13,7 @@ pub(crate) fn word(alloc: Global, bytes: &[u8]) -> Result<Word, Memory>
     Ok(Word {
         line: 1,
         column: 1,
-        text: Text::copy(alloc, bytes)?,
+        text: ShortText::copy(alloc, bytes)?,
     })
 }
 
@@ -26,7 +26,7 @@ fn numbered(alloc: Global, letter: u8, k: u32) -> Result<Word, Memory>
     Ok(Word {
         line: 1,
         column: 1,
-        text,
+        text: ShortText::copy(alloc, text.as_slice())?,
     })
 }
 

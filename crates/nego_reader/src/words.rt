@@ -6,7 +6,7 @@ ghost use Rattle.nego_reader.specs.Reading.{name_end, sign_end, op_of, name_at, 
 ghost use Rattle.nego_base.specs.LineAnswers.{Gives, Tells, FitsWord};
 
 use crate::parsed::{PRight, PSet, PTerm, PTest};
-use nego_base::{Fault, FaultKind, Memory, Op, ReadFaults, Text, Word, is_name, number_of};
+use nego_base::{Fault, FaultKind, Memory, Op, ReadFaults, ShortText, Word, is_name, number_of};
 use std::alloc::Global;
 
 /// Whether the byte may stand in a name.
@@ -87,7 +87,7 @@ fn name_at(alloc: Global, word: &Word, i: usize, bytes: &[u8]) -> Result<Word, R
     Ok(Word {
         line: word.line,
         column: word.column + i as u32,
-        text: Text::copy(alloc, bytes)?,
+        text: ShortText::copy(alloc, bytes)?,
     })
 }
 
