@@ -9,7 +9,7 @@ ghost use Rattle.nego_shape.specs.Conditions.{IsFormed};
 ghost use Rattle.nego_shape.specs.Shaped.{AreDifferent, AreNamedOnce};
 
 use indexmap::IndexSet;
-use nego_base::{AgentId, AtomId, Memory, Text, Word};
+use nego_base::{AgentId, AtomId, Memory, ShortText, Word};
 use nego_reader::{PAgent, PAtom, Parsed};
 use std::alloc::Global;
 use std::marker::Model;
@@ -18,8 +18,8 @@ use std::marker::Model;
 #[derive(Drop)]
 pub(crate) struct Numbered<'a> {
     text: &'a Parsed,
-    agents: IndexSet<Text>,
-    atoms: IndexSet<Text>,
+    agents: IndexSet<ShortText>,
+    atoms: IndexSet<ShortText>,
 }
 
 impl<'a> Model for Numbered<'a> {
@@ -75,7 +75,7 @@ impl<'a> Numbered<'a> {
 }
 
 /// The agents' names, numbered.
-fn agent_numbers(alloc: Global, agents: &[PAgent]) -> Result<IndexSet<Text>, Memory>
+fn agent_numbers(alloc: Global, agents: &[PAgent]) -> Result<IndexSet<ShortText>, Memory>
     requires { AreDifferent (map (λ agent. agent.name.text) agents.now) }
     ensures { IfOk result (λ names. names.keys ≡ map (λ agent. agent.name.text) agents.now) }
 {
@@ -87,7 +87,7 @@ fn agent_numbers(alloc: Global, agents: &[PAgent]) -> Result<IndexSet<Text>, Mem
 }
 
 /// The atoms' names, numbered.
-fn atom_numbers(alloc: Global, atoms: &[PAtom]) -> Result<IndexSet<Text>, Memory>
+fn atom_numbers(alloc: Global, atoms: &[PAtom]) -> Result<IndexSet<ShortText>, Memory>
     requires { AreDifferent (map (λ atom. atom.name.text) atoms.now) }
     ensures { IfOk result (λ names. names.keys ≡ map (λ atom. atom.name.text) atoms.now) }
 {
@@ -99,16 +99,16 @@ fn atom_numbers(alloc: Global, atoms: &[PAtom]) -> Result<IndexSet<Text>, Memory
 }
 
 /// Gives the name the next number.
-fn add(alloc: Global, names: &mut IndexSet<Text>, name: &Word) -> Result<(), Memory>
+fn add(alloc: Global, names: &mut IndexSet<ShortText>, name: &Word) -> Result<(), Memory>
     ensures { OnOk result (names.new.keys ≡ insert_key bytes_eq names.old.keys name.now.text) }
 {
-    let text = Text::copy(alloc, name.text.as_slice())?;
+    let text = ShortText::copy(alloc, name.text.as_slice())?;
     names.insert(text)?;
     Ok(())
 }
 
 /// The number of the name, and the count of names where it is none of them.
-fn number_of(names: &IndexSet<Text>, name: &Word) -> u32
+fn number_of(names: &IndexSet<ShortText>, name: &Word) -> u32
     requires { index_set_len names.now ≤ 64 }
     ensures { result ≡ place_of name.now.text names.now.keys }
 {
