@@ -7,6 +7,7 @@ use Rattle.std.proofs.lemmas.List.Elements.{All-from_get_or}
 use Rattle.std.proofs.lemmas.List.Folds.{list_any_none, list_any_at}
 use Rattle.std.proofs.lemmas.List.Quantifiers.{position-Some}
 use Rattle.std.proofs.lemmas.List.Sums.{fails_before_first, passes_at_first, position_or_len_is}
+use Rattle.memchr.specs.Find.{IsFirstByte}
 
 module _ (test : ℕ → Bool) where
   -- The byte at this place is the first that passes.
@@ -46,6 +47,18 @@ module _ (test : ℕ → Bool) where
     where
       fails_at : (bytes : List ℕ) (k : ℕ) → list_any test bytes ≡ false → k < length bytes → test (get_or bytes k 0) ≡ false
       fails_at bytes k free below = false_from_ne_true _ (λ there. false≢true (sym free ∙ list_any_at test bytes k 0 below there))
+
+  -- the first byte's place that a search finds
+  pub place_found : (bytes : List ℕ) (r : Option ℕ) → IsFirstByte test bytes r → r ≡ position test bytes
+  place_found bytes None h = sym (cond-false _ _ _ (le-ltb (position_or_len test bytes) (length bytes) (elim (cases_lt (position_or_len test bytes) (length bytes)) [
+    | inl inside ↦ absurd (h (position_or_len test bytes) (omega arith) inside (passes_at_first test bytes 0 inside))
+    | inr past ↦ past
+  ])))
+  place_found bytes (Some k) h =
+      let at : position_or_len test bytes ≡ k = position_or_len_is test bytes k 0 (omega (arith, h.0.high))
+      (λ j below. false_from_ne_true _ (h.0.before j (omega arith) below))
+      (λ _. h.1) in
+      sym (cond-true _ _ _ (lt-ltb (position_or_len test bytes) (length bytes) (omega (arith, at, h.0.high))) ∙ ap (λ n. Some n) at)
 
   -- no place where no byte passes
   pub place_none : (bytes : List ℕ) → list_any test bytes ≡ false → position test bytes ≡ None

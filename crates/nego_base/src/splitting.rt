@@ -4,6 +4,8 @@ ghost use Rattle.std.specs.List.{list_all};
 ghost use Rattle.nego_base.specs.Lines.{lines, is_newline, is_blank, is_word_end, without_end, words};
 ghost use Rattle.nego_base.specs.Scan.{word_at, words_at};
 
+use memchr::memchr;
+
 /// Whether the byte is a space or a tab.
 pub(crate) fn is_blank(b: u8) -> bool
     ensures { result ≡ is_blank b }
@@ -23,7 +25,7 @@ fn newline_place(bytes: &[u8]) -> Option<usize>
     ensures place { result ≡ position is_newline bytes.now }
     ensures within { IfSome result (λ i. i < length bytes.now) }
 {
-    bytes.iter().position(|b| *b == b'\n')
+    memchr(b'\n', bytes)
 }
 
 /// The place of the first blank.
