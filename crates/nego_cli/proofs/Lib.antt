@@ -6,6 +6,7 @@ pub mod WordLaws
 pub mod CertificateLines
 pub mod FormAtoms
 pub mod NamedPlaces
+pub mod JointTexts
 pub mod PartLaws
 pub mod Loaded
 pub mod Certificates

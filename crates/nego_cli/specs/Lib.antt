@@ -9,6 +9,7 @@ pub mod Dispatch
 pub mod Effect
 pub mod FormText
 pub mod Headline
+pub mod JointTexts
 pub mod Loading
 pub mod Make
 pub mod MakeLaws

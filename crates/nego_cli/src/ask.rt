@@ -7,13 +7,14 @@ ghost use Rattle.nego_model.specs.Summary.{final_outcomes};
 ghost use Rattle.nego_reduce.specs.Reducing.{uses_of};
 ghost use Rattle.nego_cli.specs.Ask.{AskTurn, AskText, IsAnswerTo, IsAnswerIn, answer_line, answer_lines, numbered};
 ghost use Rattle.nego_cli.specs.Dispatch.{HasNoText};
+ghost use Rattle.nego_cli.specs.JointTexts.{AreJointTexts};
 ghost use Rattle.nego_cli.specs.Reduction.{IsJudged};
 ghost use Rattle.nego_cli.specs.Turn.{TellsText};
 ghost use Rattle.nego_cli.specs.Verdict.{verdict_line};
 
 use crate::answer::Answer;
 use crate::failure::{Failure, Refusal};
-use crate::joint_text::add_joint;
+use crate::joint_texts::JointTexts;
 use crate::reduction::{fresh_work, reduction};
 use crate::starts::start_of;
 use crate::verdict::Verdict;
@@ -84,19 +85,30 @@ fn print_answers(alloc: Global, d: &Diagram, answers: &[(u32, u16)]) -> Result<T
     ensures { IfOk result (λ text. text ≡ answer_lines d.now (map (numbered d.now) answers.now)) }
 {
     let mut text = Text::new(alloc);
+    let mut joints = JointTexts::new(alloc, d.sizes())?;
     for answer in answers {
-        add_answer(&mut text, d, *answer)?;
+        add_answer(alloc, &mut text, d, &mut joints, *answer)?;
     }
     Ok(text)
 }
 
 /// Adds the line of an answer.
-fn add_answer(text: &mut Text, d: &Diagram, answer: (u32, u16)) -> Result<(), Memory>
-    requires { IsAnswerIn d.now answer }
-    ensures { OnOk result (Appends text.old text.new (answer_line d.now (numbered d.now answer))) }
+fn add_answer(
+    alloc: Global,
+    text: &mut Text,
+    d: &Diagram,
+    joints: &mut JointTexts,
+    answer: (u32, u16),
+) -> Result<(), Memory>
+    requires answer { IsAnswerIn d.now answer }
+    requires sizes { joints.old.sizes.now ≡ d.now.sizes }
+    requires texts { AreJointTexts d.now.sizes joints.old.texts }
+    ensures sizes { joints.new.sizes ≡ joints.old.sizes }
+    ensures texts { OnOk result (AreJointTexts d.now.sizes joints.new.texts) }
+    ensures line { OnOk result (Appends text.old text.new (answer_line d.now (numbered d.now answer))) }
 {
     text.extend_from_slice(d.outcome_name(final_outcome(d, answer.0)))?;
-    add_joint(text, d.sizes(), answer.1)?;
+    joints.add(alloc, text, answer.1)?;
     text.extend_from_slice(b"\n")
 }
 

@@ -12,6 +12,7 @@ mod dispatch;
 mod failure;
 mod form_text;
 mod joint_text;
+mod joint_texts;
 mod load;
 mod make;
 mod make_laws;

@@ -1,4 +1,4 @@
-use Rattle.std.proofs.Common.{◌∙◌, ℕ, [], map, take, slice_index_or, refl, sym, subst}
+use Rattle.std.proofs.Common.{◌∙◌, ℕ, [], map, take, slice_index_or, refl, ap, sym, subst}
 use Rattle.nego_base.specs.Appending.{Appends}
 use Rattle.nego_expr.proofs.Printing.{appends_then}
 use Rattle.nego_expr.proofs.Seen.{map-take_more}
@@ -15,6 +15,10 @@ loop-answer-preserved c =
     let answer = slice_index_or {A = ℕ × ℕ} answers i (0, 0) in
     let seen = map (numbered d) (take i answers) in
     let lines : Appends [] new (λ rest. lines_of_answers d seen (answer_line d (numbered d answer) rest)) =
-    appends_then [] c.loop-answer.text new (lines_of_answers d seen) (answer_line d (numbered d answer)) c.loop-answer.invariant c.in_ok-add_answer.ensures in
-    subst (λ items. Appends [] new (lines_of_answers d items)) (sym (map-take_more (numbered d) answers i (0, 0) answer c.loop-answer-test.true refl))
-    (λ rest. lines rest ∙ sym (lines_of_answers-more d seen (numbered d answer) rest))
+    appends_then [] c.loop-answer.text new (lines_of_answers d seen) (answer_line d (numbered d answer)) c.loop-answer.invariant.lines c.in_ok-add_answer.ensures.line in
+    record {
+      lines = subst (λ items. Appends [] new (lines_of_answers d items)) (sym (map-take_more (numbered d) answers i (0, 0) answer c.loop-answer-test.true refl))
+          (λ rest. lines rest ∙ sym (lines_of_answers-more d seen (numbered d answer) rest));
+      sizes = ap (λ s. s.now) c.add_answer.ensures.sizes ∙ c.loop-answer.invariant.sizes;
+      texts = c.in_ok-add_answer.ensures.texts;
+    }
