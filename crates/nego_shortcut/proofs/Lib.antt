@@ -1,4 +1,5 @@
 pub mod CloseKeeps
+mod OnlyOutcome
 pub mod Passed
 pub mod Sent
 pub mod ShortBackward

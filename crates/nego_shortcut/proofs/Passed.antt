@@ -37,7 +37,7 @@ module _ (from : PlainWork) (n : ℕ) (x : WorkOutcome) where
   build_same nodes nodes' numbers numbers' outcomes outcomes' a b c = ap (λ ns. build ns numbers outcomes) a ∙ ap₂ (λ m os. build nodes' m os) b c
 
   -- the first is passed
-  passed_first : (y : WorkOutcome) → passed_one from n x y true ≡ gone_through from n x (y ∷ [])
+  pub passed_first : (y : WorkOutcome) → passed_one from n x y true ≡ gone_through from n x (y ∷ [])
   passed_first y =
       let outcomes = with_outcome (through from n x y x.number (length from.nodes)) from.outcomes in
       build_same (from.nodes ++ Then x.node y.node ∷ []) (from.nodes ++ Then x.node y.node ∷ []) from.numbers (from.numbers + 0) outcomes (outcomes ++ []) refl (sym (add-zero from.numbers)) (sym (append-nil outcomes))
@@ -126,7 +126,7 @@ module _ (from : PlainWork) (n : ℕ) (x : WorkOutcome) (ok : IsWork from) (entr
       omega (arith, l, c)
 
   -- what is asked to pass an outcome of the atom
-  may_pass : (ds : List WorkOutcome) (i : ℕ) (y : WorkOutcome) → slice_get from.outcomes i ≡ Some y → y.atom ≡ n → MayPass (gone_through from n x ds) n x y
+  pub may_pass : (ds : List WorkOutcome) (i : ℕ) (y : WorkOutcome) → slice_get from.outcomes i ≡ Some y → y.atom ≡ n → MayPass (gone_through from n x ds) n x y
   may_pass ds i y at own = go ds
     where
       fits : OutcomeFits from y

@@ -1,6 +1,6 @@
 use Rattle.nego_expr.specs.WorkView.{plain_outcome}
 use Rattle.nego_shortcut.proofs.Passed.{IsUpTo}
-use Rattle.nego_shortcut.proofs.through.go_through.Given as goal
+use Rattle.nego_shortcut.proofs.through.go_through_each.Given as goal
 
 -- the outcomes before the place are passed
 abbrev pub invariant-loop-i : goal.invariant-loop-i
