@@ -1,5 +1,5 @@
 -- Sets of agents and atoms that are gathered name by name.
-use Rattle.std.proofs.Common.{◌≡◌, ℕ, ◌+◌, ◌<◌, ◌≤◌, ◌==◌, ◌||◌, ◌&&◌, Bool, true, false, List, [], ◌∷◌, length, map, take, get_or, refl, sym, ap, subst, ◌∙◌, arith, ltb-true, lt-ltb, eqb-true}
+use Rattle.std.proofs.Common.{◌≡◌, ℕ, ◌+◌, ◌<◌, ◌≤◌, ◌==◌, ◌||◌, ◌&&◌, Bool, true, false, List, [], ◌∷◌, ◌++◌, length, map, take, get_or, refl, sym, ap, subst, ◌∙◌, arith, ltb-true, lt-ltb, eqb-true}
 use Rattle.std.proofs.lemmas.Bool.{and_parts, and_from}
 use Rattle.std.proofs.lemmas.List.{length-map, get_or-map}
 use Rattle.std.proofs.lemmas.List.Elements.{All-weaker}
@@ -8,11 +8,14 @@ use Rattle.std.specs.List.{All, list_any, range_with_len}
 use Rattle.nego_base.specs.declared.line.Word.{Word}
 use Rattle.nego_base.specs.Members.{is_in, with_member, IsRisingBelow}
 use Rattle.nego_base.proofs.Members.{is_in-with, is_in-filter, is_in-range_zero, same_below, All-members}
+use Rattle.nego_base.proofs.ListLaws.{map-take_more}
 use Rattle.nego_base.proofs.BoolLaws.{same_tests, passing_item}
 use Rattle.nego_reader.specs.declared.parsed.PNext.{PNext}
 use Rattle.nego_reader.specs.Content.{Content, OutContent, next_content, texts}
 use Rattle.nego_shape.specs.Naming.{place_of, places_of, agent_names, atom_names, parties_in, leads_to, next_atoms}
 use Rattle.nego_shape.specs.Shaped.{IsDeclared}
+use Rattle.nego_shape.specs.declared.numbers.NextNumbers.{NextNumbers}
+use Rattle.nego_shape.specs.Made.{next_numbers}
 use Rattle.nego_shape.proofs.Places.{named_place, parties_in-rises, in_parties_in, next_atoms-rises}
 use Rattle.nego_shape.proofs.Sought.{places-any}
 
@@ -33,11 +36,6 @@ and_true false t h = refl
 and_false : (s t : Bool) → t ≡ false → (s && t) ≡ false
 and_false true t h = h
 and_false false t h = refl
-
--- whether some line leads to an atom, line by line of the text
-list_any-next : (c : Content) (a m : ℕ) (nexts : List PNext) → list_any (leads_to c a m) (map next_content nexts) ≡ list_any (λ n. leads_to c a m (next_content n)) nexts
-list_any-next c a m [] = refl
-list_any-next c a m (next ∷ nexts) = ap (λ b. leads_to c a m (next_content next) || b) (list_any-next c a m nexts)
 
 -- what holds of all mapped items holds of what one is mapped to
 pub at_item : {X Y : Type 0} (P : Y → Type 0) (f : X → Y) (xs : List X) (i : ℕ) (x : X) → All P (map f xs) → i < length xs → x ≡ get_or xs i x → P (f x)
@@ -70,40 +68,40 @@ set_is_parties c width names set rises few count declared same =
     (λ m. same a ∙ (and_parts (is_in a (places_of names (agent_names c))) (is_in a (range_with_len 0 (length c.agents)))
     (sym (is_in-filter (λ x. is_in x (places_of names (agent_names c))) a (range_with_len 0 (length c.agents))) ∙ m)).0))
 
--- a next line on which the agent stands
-pub one_more_line : (c : Content) (a : ℕ) (nexts : List PNext) (i : ℕ) (next : PNext) (set : List ℕ) (place : ℕ) (here : Bool) → i < length nexts → next ≡ get_or nexts i next →
-    here ≡ list_any (λ name. place_of name.text (agent_names c) == a) next.agents → here ≡ true → place ≡ place_of next.atom.text (atom_names c) →
-    ((m : ℕ) → is_in m set ≡ list_any (leads_to c a m) (map next_content (take i nexts))) → (m : ℕ) → is_in m (with_member place set) ≡ list_any (leads_to c a m) (map next_content (take (i + 1) nexts))
-one_more_line c a nexts i next set place here below is stands true_here at so_far m =
-    is_in-with m place set
-    ∙ (ap (λ b. (place == m) || b) (so_far m ∙ list_any-next c a m (take i nexts))
-    ∙ (or_swap (place == m) (list_any (λ n. leads_to c a m (next_content n)) (take i nexts))
-    ∙ (ap (λ b. list_any (λ n. leads_to c a m (next_content n)) (take i nexts) || b) line
-    ∙ sym (list_any-next c a m (take (i + 1) nexts) ∙ list_any_more (λ n. leads_to c a m (next_content n)) nexts i next below))))
-  where
-    on : is_in a (places_of (texts next.agents) (agent_names c)) ≡ true
-    on = places-any (agent_names c) a next.agents ∙ (sym stands ∙ true_here)
+-- the next line is one for atom m, and the agent stands on it
+abbrev pub leads_on : ℕ → ℕ → NextNumbers → Bool
+leads_on a m next = (next.atom.0 == m) && is_in a next.agents
 
-    line : (place == m) ≡ leads_to c a m (next_content (get_or nexts i next))
-    line =
-        ap (λ n. n == m) at
-        ∙ (and_true (place_of next.atom.text (atom_names c) == m) (is_in a (places_of (texts next.agents) (agent_names c))) on
-        ∙ ap (λ (n : PNext). leads_to c a m (next_content n)) is)
+-- a next line on which the agent stands
+pub one_more_line : (a : ℕ) (nexts : List NextNumbers) (i : ℕ) (next : NextNumbers) (set : List ℕ) → i < length nexts → next ≡ get_or nexts i next → is_in a next.agents ≡ true →
+    ((m : ℕ) → is_in m set ≡ list_any (leads_on a m) (take i nexts)) → (m : ℕ) → is_in m (with_member next.atom.0 set) ≡ list_any (leads_on a m) (take (i + 1) nexts)
+one_more_line a nexts i next set below is on so_far m =
+    is_in-with m next.atom.0 set
+    ∙ (ap (λ b. (next.atom.0 == m) || b) (so_far m)
+    ∙ (or_swap (next.atom.0 == m) (list_any (leads_on a m) (take i nexts))
+    ∙ (ap (λ b. list_any (leads_on a m) (take i nexts) || b) (and_true (next.atom.0 == m) (is_in a next.agents) on ∙ ap (leads_on a m) is)
+    ∙ sym (list_any_more (leads_on a m) nexts i next below))))
 
 -- a next line on which the agent doesn't stand
-pub no_more_line : (c : Content) (a : ℕ) (nexts : List PNext) (i : ℕ) (next : PNext) (set : List ℕ) (here : Bool) → i < length nexts → next ≡ get_or nexts i next →
-    here ≡ list_any (λ name. place_of name.text (agent_names c) == a) next.agents → here ≡ false →
-    ((m : ℕ) → is_in m set ≡ list_any (leads_to c a m) (map next_content (take i nexts))) → (m : ℕ) → is_in m set ≡ list_any (leads_to c a m) (map next_content (take (i + 1) nexts))
-no_more_line c a nexts i next set here below is stands false_here so_far m =
-    so_far m ∙ (list_any-next c a m (take i nexts)
-    ∙ (or_none (list_any (λ n. leads_to c a m (next_content n)) (take i nexts)) (leads_to c a m (next_content (get_or nexts i next))) line
-    ∙ sym (list_any-next c a m (take (i + 1) nexts) ∙ list_any_more (λ n. leads_to c a m (next_content n)) nexts i next below)))
-  where
-    off : is_in a (places_of (texts next.agents) (agent_names c)) ≡ false
-    off = places-any (agent_names c) a next.agents ∙ (sym stands ∙ false_here)
+pub no_more_line : (a : ℕ) (nexts : List NextNumbers) (i : ℕ) (next : NextNumbers) (set : List ℕ) → i < length nexts → next ≡ get_or nexts i next → is_in a next.agents ≡ false →
+    ((m : ℕ) → is_in m set ≡ list_any (leads_on a m) (take i nexts)) → (m : ℕ) → is_in m set ≡ list_any (leads_on a m) (take (i + 1) nexts)
+no_more_line a nexts i next set below is off so_far m =
+    so_far m
+    ∙ (or_none (list_any (leads_on a m) (take i nexts)) (leads_on a m (get_or nexts i next)) (ap (leads_on a m) (sym is) ∙ and_false (next.atom.0 == m) (is_in a next.agents) off)
+    ∙ sym (list_any_more (leads_on a m) nexts i next below))
 
-    line : leads_to c a m (next_content (get_or nexts i next)) ≡ false
-    line = ap (λ (n : PNext). leads_to c a m (next_content n)) (sym is) ∙ and_false (place_of next.atom.text (atom_names c) == m) (is_in a (places_of (texts next.agents) (agent_names c))) off
+-- an agent stands on a next line by number as in the content
+stands_on : (c : Content) (a : ℕ) (names : List (List ℕ)) → a < length c.agents → is_in a (parties_in c names) ≡ is_in a (places_of names (agent_names c))
+stands_on c a names below =
+    is_in-filter (λ x. is_in x (places_of names (agent_names c))) a (range_with_len 0 (length c.agents))
+    ∙ sym (and_true (is_in a (places_of names (agent_names c))) (is_in a (range_with_len 0 (length c.agents))) (is_in-range_zero a (length c.agents) ∙ lt-ltb a (length c.agents) below))
+
+-- whether some line leads to an atom, line by line of the content
+pub lines_lead : (c : Content) (a m : ℕ) (nexts : List PNext) → a < length c.agents → list_any (leads_on a m) (map (next_numbers c) nexts) ≡ list_any (leads_to c a m) (map next_content nexts)
+lines_lead c a m [] below = refl
+lines_lead c a m (next ∷ nexts) below =
+    ap (λ b. ((place_of next.atom.text (atom_names c) == m) && b) || list_any (leads_on a m) (map (next_numbers c) nexts)) (stands_on c a (texts next.agents) below)
+    ∙ ap (λ b. leads_to c a m (next_content next) || b) (lines_lead c a m nexts below)
 
 -- the set of the atoms on whose next lines the agent stands
 pub set_is_next : (c : Content) (width a : ℕ) (out : OutContent) (set : List ℕ) → IsRisingBelow width set → length c.atoms ≤ width → length (atom_names c) ≡ length c.atoms →
@@ -126,3 +124,12 @@ set_is_next c width a out set rises few count declared same =
     All-members-below : All (λ m. m < width) (next_atoms c out a)
     All-members-below = All-members (λ m. m < width) (next_atoms c out a) (λ m q.
         let l : m < length c.atoms = ltb-true m (length c.atoms) (sym (is_in-range_zero m (length c.atoms)) ∙ (parts m q).1) in omega (arith, l, few))
+
+-- one more item, of which one more is made
+pub one_more_item : {A B : Type 0} (f : A → B) (xs : List A) (i : ℕ) (item : A) (old new : List B) (x : B) → i < length xs → item ≡ get_or xs i item → x ≡ f item → new ≡ old ++ x ∷ [] → old ≡ map f (take i xs) → new ≡ map f (take (i + 1) xs)
+one_more_item {A} {B} f xs i item old new x below is made put so_far =
+    put ∙ (ap (λ (ys : List B). ys ++ x ∷ []) so_far ∙ (ap (λ (y : B). map f (take i xs) ++ y ∷ []) made ∙ sym (map-take_more f xs i item item below (sym is))))
+
+-- what is made of the item at a place
+pub made_at : {A B : Type 0} (f : A → B) (xs : List A) (ys : List B) (i : ℕ) (x : A) (y : B) → ys ≡ map f xs → i < length xs → x ≡ get_or xs i x → y ≡ get_or ys i y → y ≡ f x
+made_at {A} {B} f xs ys i x y made below is there = there ∙ (ap (λ (zs : List B). get_or zs i y) made ∙ (get_or-map f xs i x y below ∙ ap f (sym is)))

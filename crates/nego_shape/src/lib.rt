@@ -13,6 +13,7 @@ mod finding;
 pub mod laws;
 mod making;
 mod numbering;
+mod numbers;
 mod ordering;
 mod placing;
 mod shaping;

@@ -5,7 +5,7 @@ ghost use Rattle.std.specs.Str.{bytes_eq};
 ghost use Rattle.indexmap.specs.IndexSet.{index_set_len, insert_key};
 ghost use Rattle.nego_reader.specs.Content.{content_of};
 ghost use Rattle.nego_shape.specs.Naming.{place_of, atom_names, agent_in};
-ghost use Rattle.nego_shape.specs.Conditions.{IsFormed};
+ghost use Rattle.nego_shape.specs.Made.{HasNumbers};
 ghost use Rattle.nego_shape.specs.Shaped.{AreDifferent, AreNamedOnce};
 
 use indexmap::IndexSet;
@@ -59,7 +59,7 @@ impl<'a> Numbered<'a> {
 
     /// The agent of this name, and the number behind the last where there is none.
     pub(crate) fn agent(&self, name: &Word) -> AgentId
-        requires { IsFormed (content_of self.now) }
+        requires { HasNumbers (content_of self.now) }
         ensures { result ≡ agent_in (content_of self.now) name.now.text }
     {
         AgentId(number_of(&self.agents, name))
@@ -67,7 +67,7 @@ impl<'a> Numbered<'a> {
 
     /// The atom of this name, and the number behind the last where there is none.
     pub(crate) fn atom(&self, name: &Word) -> AtomId
-        requires { IsFormed (content_of self.now) }
+        requires { HasNumbers (content_of self.now) }
         ensures { result.0 ≡ place_of name.now.text (atom_names (content_of self.now)) }
     {
         AtomId(number_of(&self.atoms, name))

@@ -12,6 +12,7 @@ use crate::fault::ShapeAnswer;
 use crate::finding::form_fault;
 use crate::making::diagram;
 use crate::numbering::Numbered;
+use crate::numbers::atoms_numbers;
 use nego_model::Diagram;
 use nego_reader::Parsed;
 use std::alloc::Global;
@@ -31,5 +32,6 @@ pub fn shape(alloc: Global, p: &Parsed) -> Result<Diagram, ShapeAnswer>
         return Err(ShapeAnswer::Off(fault));
     }
     let numbered = Numbered::new(alloc, p)?;
-    diagram(alloc, &numbered)
+    let numbers = atoms_numbers(alloc, &numbered)?;
+    diagram(alloc, &numbered, numbers.as_slice())
 }

@@ -8,7 +8,9 @@ use Rattle.nego_reader.specs.Content.{content_of, out_content}
 use Rattle.nego_shape.specs.Answer.{Tells}
 use Rattle.nego_shape.specs.Faults.{not_total_at, not_total_among}
 use Rattle.nego_shape.specs.Naming.{all_outs, outcome_in}
-use Rattle.nego_shape.specs.Made.{placed_at}
+use Rattle.nego_shape.specs.Made.{placed_at, out_numbers}
+use Rattle.std.proofs.lemmas.Option.{get_or_from_slice_get}
+use Rattle.nego_shape.proofs.Gathering.{made_at}
 use Rattle.nego_shape.proofs.FirstLaws.{numbered_goes_on, numbered_done}
 use Rattle.nego_shape.proofs.PartsMade.{one_more_made}
 use Rattle.nego_shape.proofs.TotalLaws.{told_numbered}
@@ -16,38 +18,42 @@ use Rattle.nego_shape.proofs.making.add_outcomes.Goals as goal
 
 pub outcome_part-requires-clause-out : goal.outcome_part-requires-clause-out
 outcome_part-requires-clause-out c =
-    subst (λ out. Contains (all_outs (content_of c.args.p.now)) (placed_at c.args.n (out_content out))) (sym c.out-item.is) (c.requires.outs c.loop-out.out-index c.out-item.result c.loop-out-test.true)
+    subst (λ out. Contains (all_outs (content_of c.args.p.now)) (placed_at c.args.n (out_content out))) (sym c.index-outs-i.is) (c.requires.outs c.loop-i.i c.index-outs-i.result c.loop-i-test.true)
 
 pub returns-in_err-outcome_part-clause-err : goal.returns-in_err-outcome_part-clause-err
 returns-in_err-outcome_part-clause-err c =
     let p = c.args.p.now in
     let base = length c.args.outcomes.now in
-    let i = c.loop-out.out-index in
+    let i = c.loop-i.i in
     let e = c.in_err-outcome_part.field-0.0 in
     let told = err_from_is_err_and c.from_residual.result c.from_residual.ensures.1 in
     rw (told.1, told.2)
-    (told_numbered (λ k out. not_total_at p (base + k) out) e c.args.outs.now i i c.out-item.result (not_total_among p base c.args.outs.now) c.loop-out-test.true c.out-item.is
-    (subst (λ o. Tells e (not_total_at p o c.out-item.result)) (c.len.ensures ∙ c.loop-out.invariant.count) c.in_err-outcome_part.ensures.err) c.loop-out.invariant.total)
+    (told_numbered (λ k out. not_total_at p (base + k) out) e c.args.outs.now i i c.index-outs-i.result (not_total_among p base c.args.outs.now) c.loop-i-test.true c.index-outs-i.is
+    (subst (λ o. Tells e (not_total_at p o c.index-outs-i.result)) (c.len.ensures ∙ c.loop-i.invariant.count) c.in_err-outcome_part.ensures.err) c.loop-i.invariant.total)
 
-pub loop-out-preserved : goal.loop-out-preserved
-loop-out-preserved c =
+pub loop-i-preserved : goal.loop-i-preserved
+loop-i-preserved c =
     let p = c.args.p.now in
     let base = length c.args.outcomes.now in
-    let i = c.loop-out.out-index in
+    let i = c.loop-i.i in
     let put = c.in_ok-push.ensures.ok in
     let long = ap length put in
-    let before = c.loop-out.invariant.count in
+    let before = c.loop-i.invariant.count in
     record {
-      parts = one_more_made (plain_outcome (length p.agents)) (λ (out : POut). outcome_in (content_of p) (placed_at c.args.n (out_content out))) c.args.outcomes.now c.loop-out.outcomes c.push.new.self c.args.outs.now i _ c.out-item.result
-          c.loop-out-test.true c.out-item.is c.in_ok-outcome_part.ensures.part put c.loop-out.invariant.parts;
+      parts = one_more_made (plain_outcome (length p.agents)) (λ (out : POut). outcome_in (content_of p) (placed_at c.args.n (out_content out))) c.args.outcomes.now c.loop-i.outcomes c.push.new.self c.args.outs.now i _ c.index-outs-i.result
+          c.loop-i-test.true c.index-outs-i.is c.in_ok-outcome_part.ensures.part put c.loop-i.invariant.parts;
       count = omega (arith, long, before, length-append {A = OutcomePart});
-      total = numbered_goes_on (λ k out. not_total_at p (base + k) out) c.args.outs.now i i c.out-item.result (not_total_among p base c.args.outs.now) c.loop-out-test.true c.out-item.is
-          (subst (λ o. not_total_at p o c.out-item.result ≡ None) (c.len.ensures ∙ before) c.in_ok-outcome_part.ensures.total) c.loop-out.invariant.total;
+      total = numbered_goes_on (λ k out. not_total_at p (base + k) out) c.args.outs.now i i c.index-outs-i.result (not_total_among p base c.args.outs.now) c.loop-i-test.true c.index-outs-i.is
+          (subst (λ o. not_total_at p o c.index-outs-i.result ≡ None) (c.len.ensures ∙ before) c.in_ok-outcome_part.ensures.total) c.loop-i.invariant.total;
     }
 
 pub returns-clause-total : goal.returns-clause-total
 returns-clause-total c =
     let p = c.args.p.now in
     let base = length c.args.outcomes.now in
-    let i = c.loop-out.out-index in
-    sym (numbered_done (λ k out. not_total_at p (base + k) out) c.args.outs.now i i (not_total_among p base c.args.outs.now) c.loop-out-test.false c.loop-out.invariant.total)
+    let i = c.loop-i.i in
+    sym (numbered_done (λ k out. not_total_at p (base + k) out) c.args.outs.now i i (not_total_among p base c.args.outs.now) c.loop-i-test.false c.loop-i.invariant.total)
+
+pub outcome_part-requires-clause-numbers : goal.outcome_part-requires-clause-numbers
+outcome_part-requires-clause-numbers c =
+    made_at (out_numbers (content_of c.args.p.now)) c.args.outs.now c.args.numbers.now.outs c.loop-i.i c.index-outs-i.result c.index.result.now c.requires.numbers c.loop-i-test.true c.index-outs-i.is (sym (get_or_from_slice_get c.args.numbers.now.outs c.loop-i.i c.index.result.now c.index.result.now c.index.ensures))

@@ -7,10 +7,10 @@ use Rattle.nego_shape.specs.Naming.{outcome_in}
 use Rattle.nego_shape.specs.Made.{placed_at}
 use Rattle.nego_shape.proofs.making.add_outcomes.Given as goal
 
-abbrev pub invariant-loop-out : goal.invariant-loop-out
-invariant-loop-out l = record {
+abbrev pub invariant-loop-i : goal.invariant-loop-i
+invariant-loop-i l = record {
   parts : map (plain_outcome (length l.p.agents)) l.outcomes
-      ≡ map (plain_outcome (length l.p.agents)) l.initial.outcomes ++ map (λ out. outcome_in (content_of l.p) (placed_at l.n (out_content out))) (take l.out-index l.outs);
-  count : length l.outcomes ≡ length l.initial.outcomes + l.out-index;
-  total : first_numbered (λ i out. not_total_at l.p (length l.initial.outcomes + i) out) l.out-index (drop l.out-index l.outs) ≡ not_total_among l.p (length l.initial.outcomes) l.outs;
+      ≡ map (plain_outcome (length l.p.agents)) l.initial.outcomes ++ map (λ out. outcome_in (content_of l.p) (placed_at l.n (out_content out))) (take l.i l.outs);
+  count : length l.outcomes ≡ length l.initial.outcomes + l.i;
+  total : first_numbered (λ i out. not_total_at l.p (length l.initial.outcomes + i) out) l.i (drop l.i l.outs) ≡ not_total_among l.p (length l.initial.outcomes) l.outs;
 }

@@ -4,7 +4,7 @@ use Rattle.nego_shape.specs.Naming.{outs_from}
 use Rattle.nego_shape.specs.Made.{parts_from}
 use Rattle.nego_shape.proofs.making.atoms_of.Given as goal
 
-abbrev pub invariant-loop-atom : goal.invariant-loop-atom
-invariant-loop-atom l =
-    (l.parts ++ parts_from (content_of l.p) l.start (map atom_content (drop l.atom-index l.atom-items)) ≡ parts_from (content_of l.p) 0 (map atom_content l.p.atoms))
-    × (l.start + length (outs_from l.atom-index (map atom_content (drop l.atom-index l.atom-items))) ≤ 256)
+abbrev pub invariant-loop-n : goal.invariant-loop-n
+invariant-loop-n l =
+    (l.parts ++ parts_from (content_of l.p) l.start (map atom_content (drop l.n l.atoms)) ≡ parts_from (content_of l.p) 0 (map atom_content l.p.atoms))
+    × (l.start + length (outs_from l.n (map atom_content (drop l.n l.atoms))) ≤ 256)

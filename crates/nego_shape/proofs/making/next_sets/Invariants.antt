@@ -4,4 +4,4 @@ use Rattle.nego_shape.specs.Naming.{next_atoms}
 use Rattle.nego_shape.proofs.making.next_sets.Given as goal
 
 abbrev pub invariant-loop-a : goal.invariant-loop-a
-invariant-loop-a l = (length l.nexts ≡ 16) × ((k : ℕ) → k < l.a → slice_index_or l.nexts k [] ≡ next_atoms (content_of l.p) (out_content l.out) k)
+invariant-loop-a l = (length l.sets ≡ 16) × ((k : ℕ) → k < l.a → slice_index_or l.sets k [] ≡ next_atoms (content_of l.p) (out_content l.out) k)

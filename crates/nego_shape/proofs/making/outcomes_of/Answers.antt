@@ -1,15 +1,20 @@
-use Rattle.std.proofs.Common.{◌≡◌, ◌+◌, ◌<◌, ◌≤◌, ◌++◌, List, length, map, drop, get_or, sym, ap, subst, ◌∙◌}
+use Rattle.std.proofs.Common.{◌≡◌, ◌+◌, ◌<◌, ◌≤◌, ◌++◌, List, [], Option, Some, length, map, drop, get_or, sym, ap, subst, ◌∙◌}
 use Rattle.std.specs.List.{All, Contains}
+use Rattle.std.specs.Option.{option_map_or}
+use Rattle.std.proofs.lemmas.Option.{slice_get-get_or}
+use Rattle.nego_base.proofs.ListLaws.{mapped_at}
+use Rattle.nego_shape.specs.declared.numbers.AtomNumbers.{AtomNumbers}
+use Rattle.nego_shape.proofs.Gathering.{made_at}
 use Rattle.std.proofs.lemmas.Result.{err_from_is_err_and}
 use Rattle.nego_model.specs.Parts.{plain_outcome}
 use Rattle.nego_reader.specs.declared.parsed.Parsed.{Parsed}
 use Rattle.nego_reader.specs.declared.parsed.PAtom.{PAtom}
 use Rattle.nego_reader.specs.declared.parsed.POut.{POut}
-use Rattle.nego_reader.specs.Content.{content_of, out_content}
+use Rattle.nego_reader.specs.Content.{AtomContent, content_of, atom_content, out_content}
 use Rattle.nego_shape.specs.Answer.{Tells}
 use Rattle.nego_shape.specs.Faults.{not_total_among, not_total_from, not_total}
-use Rattle.nego_shape.specs.Naming.{all_outs, outcome_in}
-use Rattle.nego_shape.specs.Made.{placed_at}
+use Rattle.nego_shape.specs.Naming.{all_outs, outcome_in, parties_in}
+use Rattle.nego_shape.specs.Made.{placed_at, out_numbers, atom_numbers}
 use Rattle.nego_shape.proofs.PartsMade.{outs_are_placed, outs_cut, few_made, more_made}
 use Rattle.nego_shape.proofs.TotalLaws.{partial_told, partial_goes_on, partial_done}
 use Rattle.nego_shape.proofs.making.outcomes_of.Goals as goal
@@ -70,3 +75,26 @@ returns-clause-total c =
     let n = c.loop-n.n in
     let same = c.as_slice-atoms.ensures ∙ ap (λ (q : Parsed). q.atoms) c.text.ensures in
     partial_done p p.atoms n (length c.loop-n.outcomes) (not_total p) (subst (λ (atoms : List PAtom). length atoms ≤ n) same c.loop-n-test.false) c.loop-n.invariant.total
+
+pub add_outcomes-requires-clause-parties : goal.add_outcomes-requires-clause-parties
+add_outcomes-requires-clause-parties c =
+    let p = c.args.p.now in
+    let c0 = content_of p in
+    let atom = c.index-atoms-n.result in
+    let same = c.as_slice-atoms.ensures ∙ ap (λ (q : Parsed). q.atoms) c.text.ensures in
+    let below : c.loop-n.n < length p.atoms = subst (λ (atoms : List PAtom). c.loop-n.n < length atoms) same c.loop-n-test.true in
+    let is : atom ≡ get_or p.atoms c.loop-n.n atom = subst (λ (atoms : List PAtom). atom ≡ get_or atoms c.loop-n.n atom) same c.index-atoms-n.is in
+    let numbers = made_at (atom_numbers c0) p.atoms c.args.numbers.now c.loop-n.n atom c.index-numbers-n.result c.requires.numbers below is c.index-numbers-n.is in
+    let here = mapped_at atom_content p.atoms c.loop-n.n atom (slice_get-get_or p.atoms c.loop-n.n atom below ∙ ap (λ (x : PAtom). Some x) (sym is)) in
+    ap (λ (x : AtomNumbers). x.parties) numbers ∙ sym (ap (λ (o : Option AtomContent). option_map_or (λ (x : AtomContent). parties_in c0 x.parties) o []) here)
+
+pub add_outcomes-requires-clause-numbers : goal.add_outcomes-requires-clause-numbers
+add_outcomes-requires-clause-numbers c =
+    let p = c.args.p.now in
+    let c0 = content_of p in
+    let atom = c.index-atoms-n.result in
+    let same = c.as_slice-atoms.ensures ∙ ap (λ (q : Parsed). q.atoms) c.text.ensures in
+    let below : c.loop-n.n < length p.atoms = subst (λ (atoms : List PAtom). c.loop-n.n < length atoms) same c.loop-n-test.true in
+    let is : atom ≡ get_or p.atoms c.loop-n.n atom = subst (λ (atoms : List PAtom). atom ≡ get_or atoms c.loop-n.n atom) same c.index-atoms-n.is in
+    let numbers = made_at (atom_numbers c0) p.atoms c.args.numbers.now c.loop-n.n atom c.index-numbers-n.result c.requires.numbers below is c.index-numbers-n.is in
+    ap (λ (x : AtomNumbers). x.outs) numbers ∙ ap (map (out_numbers c0)) (sym c.as_slice.ensures)

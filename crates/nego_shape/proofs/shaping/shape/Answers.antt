@@ -1,14 +1,15 @@
 use Rattle.std.proofs.Common.{◌≡◌, None, sym, ap, subst, ◌∙◌}
-use Rattle.std.specs.Prelude.{IfOk, IfErr}
+use Rattle.std.specs.Prelude.{IfOk}
 use Rattle.std.proofs.lemmas.Result.{IfOk-weaker, IfErr-weaker}
 use Rattle.nego_shape.specs.declared.fault.ShapeAnswer.TheVariants.{Off}
 use Rattle.nego_reader.specs.declared.parsed.Parsed.{Parsed}
 use Rattle.nego_reader.specs.Content.{content_of}
 use Rattle.nego_shape.specs.Answer.{Tells, HasCause, LacksShape, HasJoint}
-use Rattle.nego_shape.specs.Faults.{form_fault, not_total, shape_fault}
+use Rattle.nego_shape.specs.Faults.{form_fault, not_total}
 use Rattle.nego_shape.specs.Naming.{diagram_in}
 use Rattle.nego_shape.specs.Conditions.{IsFormed, HasShape}
 use Rattle.nego_shape.specs.Shaped.{HasNameWords}
+use Rattle.nego_shape.specs.Made.{HasNumbers}
 use Rattle.nego_shape.proofs.ConditionLaws.{form_shape}
 use Rattle.nego_shape.proofs.FirstFaults.{has_cause}
 use Rattle.nego_shape.proofs.FirstLaws.{or_found, or_missed}
@@ -18,6 +19,11 @@ use Rattle.nego_shape.proofs.shaping.shape.Goals as goal
 
 pub new-requires : goal.new-requires
 new-requires c = (shaped_form c.args.p.now (sym c.in_ok-fault.ensures ∙ c.in_default.is)).named_once
+
+pub atoms_numbers-requires : goal.atoms_numbers-requires
+atoms_numbers-requires c =
+    let formed = shaped_form c.args.p.now (sym c.in_ok-fault.ensures ∙ c.in_default.is) in
+    subst (λ (p : Parsed). HasNumbers (content_of p)) (sym c.in_ok-numbered.ensures) (record { few_agents = formed.few_agents; few_atoms = formed.few_atoms; named_once = formed.named_once; declared = formed.declared })
 
 pub diagram-requires-clause-shaped : goal.diagram-requires-clause-shaped
 diagram-requires-clause-shaped c =

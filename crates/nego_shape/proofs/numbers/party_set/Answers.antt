@@ -8,12 +8,12 @@ use Rattle.nego_shape.specs.Naming.{places_of, agent_names}
 use Rattle.nego_shape.specs.Shaped.{IsDeclared}
 use Rattle.nego_shape.proofs.Gathering.{at_item, one_more_place, set_is_parties}
 use Rattle.nego_shape.proofs.ShapedDiagrams.{agents-count}
-use Rattle.nego_shape.proofs.making.party_set.Goals as goal
+use Rattle.nego_shape.proofs.numbers.party_set.Goals as goal
 
 pub with-set-requires : goal.with-set-requires
 with-set-requires c =
     let d = at_item (IsDeclared (agent_names (content_of c.args.p.now))) (λ (w : Word). w.text) c.args.names.now c.loop-name.name-index c.name-item.result c.requires.declared c.loop-name-test.true c.name-item.is in
-    let few = c.requires.shaped.few_agents in
+    let few = c.requires.numbers.few_agents in
     let count = agents-count (content_of c.args.p.now) in
     let at = ap (λ (a : AgentId). a.0) c.agent.ensures in omega (arith, at, d, few, count)
 
@@ -27,5 +27,5 @@ loop-name-preserved c = (
 pub returns : goal.returns
 returns c =
     let all : take c.loop-name.name-index c.args.names.now ≡ c.args.names.now = take_all c.loop-name.name-index c.args.names.now c.loop-name-test.false in
-    set_is_parties (content_of c.args.p.now) 16 (texts c.args.names.now) c.loop-name.set c.loop-name.invariant.0 c.requires.shaped.few_agents (agents-count (content_of c.args.p.now)) c.requires.declared
+    set_is_parties (content_of c.args.p.now) 16 (texts c.args.names.now) c.loop-name.set c.loop-name.invariant.0 c.requires.numbers.few_agents (agents-count (content_of c.args.p.now)) c.requires.declared
     (λ a. c.loop-name.invariant.1 a ∙ ap (λ (ws : List Word). is_in a (places_of (texts ws) (agent_names (content_of c.args.p.now)))) all)

@@ -2,7 +2,7 @@ use Rattle.std.proofs.Common.{map, ap, ◌∙◌}
 use Rattle.nego_reader.specs.Content.{content_of, test_content, set_content}
 use Rattle.nego_shape.specs.Naming.{test_in, set_in}
 use Rattle.nego_shape.proofs.PartsMade.{case_more}
-use Rattle.nego_shape.proofs.making.cases_of.Goals as goal
+use Rattle.nego_shape.proofs.numbers.cases_of.Goals as goal
 
 pub loop-case-preserved : goal.loop-case-preserved
 loop-case-preserved c =

@@ -1,7 +1,7 @@
 use Rattle.std.proofs.Common.{◌≡◌, map, take}
 use Rattle.nego_reader.specs.Content.{content_of, case_content}
 use Rattle.nego_shape.specs.Naming.{case_in}
-use Rattle.nego_shape.proofs.making.cases_of.Given as goal
+use Rattle.nego_shape.proofs.numbers.cases_of.Given as goal
 
 abbrev pub invariant-loop-case : goal.invariant-loop-case
 invariant-loop-case l = l.made ≡ map (λ case. case_in (content_of l.p) (case_content case)) (take l.case-index l.cases)
