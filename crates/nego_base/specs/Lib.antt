@@ -14,5 +14,6 @@ pub mod Options
 pub mod Printed
 pub mod Results
 pub mod Room
+pub mod RoomLends
 pub mod Scan
 pub mod Sound

@@ -1,6 +1,9 @@
-ghost use Rattle.std.specs.Prelude.{◌≡◌, ◌==◌, ◌+◌, ◌-◌, ◌<◌, ◌≤◌, [], ◌∷◌, ◌++◌, length, take, max, OnOk, OnErr, IfOk, slice_get, slice_set, insert, remove};
+ghost use Rattle.std.specs.Prelude.{◌≡◌, ◌==◌, ◌+◌, ◌-◌, ◌<◌, ◌≤◌, [], ◌∷◌, ◌++◌, length, take, max, OnOk, OnErr, IfOk, slice_get, slice_set, swap, insert, remove};
+ghost use Rattle.std.specs.Borrow.{sem};
 ghost use Rattle.std.specs.Fn.{CalledAt};
 ghost use Rattle.std.specs.List.Retain.{IsFiltered};
+ghost use Rattle.std.specs.Option.{option_copied_mut};
+ghost use Rattle.nego_base.specs.RoomLends.{lends_reserved};
 
 use crate::{Memory, Seq};
 use std::alloc::Global;
@@ -105,6 +108,24 @@ impl<T> Reserved<T> {
         ensures room { self.new.room ≡ self.old.room }
     {
         self.items[i] = x;
+    }
+
+    /// The item at a place, to be written.
+    pub fn get_mut(&mut self, i: usize) -> Option<&mut T>
+        ensures* writes_back { sem 𝓛 (lends_reserved T.row self.entry i result) }
+        ensures value { option_copied_mut result ≡ slice_get self.old.items i }
+    {
+        self.items.get_mut(i)
+    }
+
+    /// Changes two items over.
+    pub fn swap(&mut self, i: usize, j: usize)
+        requires first { i < length self.old.items }
+        requires second { j < length self.old.items }
+        ensures items { self.new.items ≡ swap self.old.items i j }
+        ensures room { self.new.room ≡ self.old.room }
+    {
+        self.items.swap(i, j);
     }
 
     /// Puts an item at a place. The items from there on move up by one.

@@ -1,14 +1,15 @@
 -- A gap among items: a place of which the item does not matter. Where an item is to stand among the others.
-use Rattle.std.proofs.Common.{◌≡◌, ◌≢◌, ◌↔◌, ◌⊎◌, inl, inr, ⊎_elim, ℕ, zero, suc, ◌+◌, ◌<◌, ◌≤◌, List, [], ◌∷◌, length, set, slice_get, Some, refl, sym, subst, ap, arith}
-use Rattle.std.specs.List.{AllPairs, Contains, insert, remove}
+use Rattle.std.proofs.Common.{◌≡◌, ◌≢◌, ◌↔◌, ◌⊎◌, inl, inr, ⊎_elim, ℕ, zero, suc, ◌+◌, ◌<◌, ◌≤◌, List, [], ◌∷◌, length, map, option_map, set, slice_get, get_or, Some, refl, sym, subst, ap, ◌∙◌, arith}
+use Rattle.std.specs.List.{AllPairs, Contains, insert, remove, swap}
 use Rattle.std.specs.List.Sorted.{IsPartitionPoint}
 use Rattle.std.specs.Cmp.{IsTotalOrder}
 use Rattle.std.specs.declared.cmp.Ordering.{Ordering}
 use Rattle.std.specs.declared.cmp.Ordering.TheVariants.{Less, Greater}
 use Rattle.std.proofs.lemmas.Bool.{cases_lt}
-use Rattle.std.proofs.lemmas.List.Edits.{get_or-remove_above, get_or-remove_below, length-remove}
+use Rattle.std.proofs.lemmas.List.{map-set}
+use Rattle.std.proofs.lemmas.List.Edits.{get_or-remove_above, get_or-remove_below, length-remove, swap_is}
 use Rattle.std.proofs.lemmas.List.Quantifiers.{all_pairs_remove}
-use Rattle.std.proofs.lemmas.Option.{none-some, same_Some, slice_get_within}
+use Rattle.std.proofs.lemmas.Option.{none-some, same_Some, slice_get_within, slice_get_cases, slice_get-map, slice_get-get_or}
 use Rattle.nego_expr.proofs.RisingLists.{Contains-insert, Contains-remove, rises-insert}
 
 module _ {X : Type 0} where
@@ -35,6 +36,12 @@ module _ {X : Type 0} where
   gap-down (x ∷ xs) (suc (suc i)) zero y n l e = absurd (omega (arith, n))
   gap-down (x ∷ []) (suc zero) zero y n l e = absurd (omega (arith, l))
   gap-down (x ∷ z ∷ zs) (suc zero) zero y n l e = ap (λ w. w ∷ zs) (sym (same_Some x y e))
+
+  -- what stands at a place doesn't matter where it is taken away
+  remove-set : (xs : List X) (i : ℕ) (y : X) → remove (set xs i y) i ≡ remove xs i
+  remove-set [] i y = refl
+  remove-set (x ∷ xs) zero y = refl
+  remove-set (x ∷ xs) (suc i) y = ap (◌∷◌ x) (remove-set xs i y)
 
   module _ (P Q : X → Type 0) where
     -- a point before an item is one without the item too
@@ -73,3 +80,17 @@ module _ {X : Type 0} (R : X → X → Ordering) (o : IsTotalOrder R) where
     where
       within : i < length xs
       within = slice_get_within xs i z at
+
+-- the gap and the item beside it change over
+pub gap-swap : {X Y : Type 0} (see : X → Y) (xs : List X) (i j : ℕ) → i < length xs → j < length xs →
+    ((y : Y) → slice_get (map see xs) j ≡ Some y → remove (set (map see xs) i y) j ≡ remove (map see xs) i) → remove (map see (swap xs i j)) j ≡ remove (map see xs) i
+gap-swap {X} {Y} see xs i j li lj moved = ⊎_elim go (λ past. absurd (omega (arith, past.0, lj))) (slice_get_cases xs j).1
+  where
+    go : (x : X) × (j < length xs) × (slice_get xs j ≡ Some x) × (get_or xs j x ≡ x) → remove (map see (swap xs i j)) j ≡ remove (map see xs) i
+    go q =
+        let a : X = get_or xs j q.0 in
+        let b : X = get_or xs i q.0 in
+        ap (λ zs. remove (map see zs) j) (sym (swap_is xs i j q.0 li lj))
+        ∙ (ap (λ zs. remove zs j) (map-set see (set xs i a) j b ∙ ap (λ zs. set zs j (see b)) (map-set see xs i a))
+        ∙ (remove-set (set (map see xs) i (see a)) j (see b)
+        ∙ moved (see a) (slice_get-map see xs j ∙ ap (option_map see) (slice_get-get_or xs j q.0 lj))))

@@ -185,11 +185,6 @@ fn then_at(nodes: &mut Nodes, outcomes: &mut Reserved<Outcome>, x: NodeId, i: us
     ensures nodes_room { nodes.new.room ≡ nodes.old.room - 1 }
     ensures room { outcomes.new.room ≡ outcomes.old.room }
 {
-    let outcome = &outcomes.as_slice()[i];
-    let node = nodes.push(Node::Then(x, outcome.node));
-    let next = Outcome {
-        node,
-        ..outcome.copy()
-    };
-    outcomes.set(i, next);
+    let outcome = outcomes.get_mut(i).unwrap();
+    outcome.node = nodes.push(Node::Then(x, outcome.node));
 }

@@ -30,16 +30,6 @@ impl Slot {
         }
     }
 
-    /// The same slot once more.
-    fn copy(&self) -> Slot
-        ensures { plain_slot result ≡ plain_slot self.now }
-    {
-        Slot {
-            targets: self.targets.copy(),
-            ..*self
-        }
-    }
-
     /// How it compares with the slot of an outcome.
     fn compare(&self, x: &Outcome) -> Ordering
         ensures { result ≡ slot_cmp (plain_slot self.now) (slot_of (plain_outcome x.now)) }
@@ -168,8 +158,7 @@ fn put_instead(slots: &mut Reserved<Slot>, from: usize, to: usize, x: &Outcome)
     let mut gap = from;
     while gap != to {
         let next = if gap < to { gap + 1 } else { gap - 1 };
-        let slot = slots.as_slice()[next].copy();
-        slots.set(gap, slot);
+        slots.swap(gap, next);
         gap = next;
     }
     slots.set(to, Slot::of(x));
