@@ -2,7 +2,7 @@
 use Rattle.std.proofs.Common.{◌≡◌, ◌≢◌, inl, ⊎_elim, ℕ, zero, suc, ◌==◌, ◌&&◌, not, nat_lt, Bool, true, false, List, [], ◌∷◌, length, map, option_map, slice_get, Option, Some, None, Bor, IfSome, IsTrue, sym, subst, ap, ◌∙◌, append-nil, arith}
 use Rattle.std.specs.List.{All, filter}
 use Rattle.std.specs.Option.{option_map_or}
-use Rattle.std.proofs.lemmas.Bool.{and_parts, and_from, false_from_ne_true, ltb-true, true≢false}
+use Rattle.std.proofs.lemmas.Bool.{and_parts, and_from, false_from_ne_true, true≢false}
 use Rattle.std.proofs.lemmas.List.{length-map}
 use Rattle.std.proofs.lemmas.List.Elements.{All-weaker}
 use Rattle.std.proofs.lemmas.Option.{none-some, same_Some}
@@ -146,8 +146,3 @@ lent_alive work o (Some x) e = found_itself work o (plain_outcome x.now) (sym e)
 pub lent_known : (work : PlainWork) (o : ℕ) (lent : Option (Bor Outcome)) → option_map (λ x. plain_outcome x.now) lent ≡ outcome_at work o → MayOffer work (Some o) → MayOffer work (option_map (λ x. x.now.number.0) lent)
 lent_known work o None e known = tt
 lent_known work o (Some x) e known = subst (OthersAreDone work) (sym (found-number work.outcomes o (plain_outcome x.now) (sym e))) known
-
--- of an outcome before the changed one the order takes no shortcut
-pub skipped : (work : PlainWork) (changed : Option (Bor Outcome)) (p : ℕ) → MayOffer work (option_map (λ y. y.now.number.0) changed) → option_map_or (λ y. nat_lt p y.now.number.0) changed false ≡ true → (m : ℕ) → takes_shortcut work p m ≡ false
-skipped work None p known h m = absurd (true≢false (sym h))
-skipped work (Some y) p known h m = known.shortcuts p m (ltb-true p y.now.number.0 h)

@@ -1,9 +1,9 @@
 -- Searches through the alive outcomes, which stand by rising number.
-use Rattle.std.proofs.Common.{◌≡◌, ⊎_elim, ℕ, zero, suc, ◌+◌, ◌<◌, ◌≤◌, List, [], ◌∷◌, map, option_map, length, slice_get, slice_index_or, Option, Some, None, refl, sym, subst, ap, ◌∙◌, arith}
+use Rattle.std.proofs.Common.{◌≡◌, ⊎_elim, ℕ, zero, suc, ◌+◌, ◌<◌, ◌≤◌, List, [], ◌∷◌, map, option_map, length, slice_get, slice_index_or, get_or, Option, Some, None, refl, sym, subst, ap, ◌∙◌, arith}
 use Rattle.std.proofs.lemmas.Bool.{cases_lt}
 use Rattle.std.proofs.lemmas.List.{length-map}
-use Rattle.std.proofs.lemmas.Option.{none-some, same_Some, slice_get_within, slice_get-map, slice_get_read}
-use Rattle.nego_base.specs.Members.{RisesFrom}
+use Rattle.std.proofs.lemmas.Option.{none-some, same_Some, slice_get_within, slice_get-map, slice_get-get_or, slice_get_read}
+use Rattle.nego_base.specs.Members.{RisesFrom, IsRising}
 use Rattle.nego_expr.specs.Work.{WorkOutcome, PlainWork, outcome_among, outcome_at, IsWork}
 use Rattle.nego_expr.specs.declared.outcome.Outcome.{Outcome}
 use Rattle.nego_expr.specs.WorkView.{plain_outcome}
@@ -34,6 +34,24 @@ earlier low (w ∷ ws) zero (suc j) y z h e k l = absurd (
     no_more)
 earlier low (w ∷ ws) (suc i) zero y z h e k l = omega arith
 earlier low (w ∷ ws) (suc i) (suc j) y z h e k l = let r : j < i = earlier (w.number + 1) ws i j y z h.1 e k l in omega (arith, r)
+
+-- an outcome at an earlier place has a lesser number
+lower : (low : ℕ) (zs : List WorkOutcome) (i j : ℕ) (y z : WorkOutcome) → RisesFrom low (numbers_of zs) → slice_get zs i ≡ Some y → slice_get zs j ≡ Some z → j < i → z.number < y.number
+lower low [] i j y z h e k l = absurd (none-some y e)
+lower low (w ∷ ws) zero j y z h e k l = absurd (omega (arith, l))
+lower low (w ∷ ws) (suc i) zero y z h e k l =
+    let above : w.number + 1 ≤ y.number = not_below (w.number + 1) ws i y h.1 e in
+    let n = ap (λ v. v.number) (same_Some w z k) in
+    omega (arith, above, n)
+lower low (w ∷ ws) (suc i) (suc j) y z h e k l = lower (w.number + 1) ws i j y z h.1 e k (omega (arith, l))
+
+-- an outcome before the place at which that of a number is found has a lesser number
+pub lower_than_found : (zs : List WorkOutcome) → IsRising (numbers_of zs) → (o i : ℕ) → i < length zs → slice_get zs i ≡ outcome_among zs o → (j : ℕ) (z : WorkOutcome) → j < i → slice_get zs j ≡ Some z → z.number < o
+lower_than_found zs rise o i within found j z l k =
+    let at = slice_get-get_or zs i z within in
+    let same : (get_or zs i z).number ≡ o = found-number zs o (get_or zs i z) (sym found ∙ at) in
+    let less : z.number < (get_or zs i z).number = lower 0 zs i j (get_or zs i z) z rise at k l in
+    omega (arith, less, same)
 
 -- It holds of the number of each outcome before the place.
 abbrev pub HoldsBefore : (ℕ → Type 0) → PlainWork → ℕ → Type 0

@@ -1,9 +1,9 @@
 //! The least shortcut that the order takes.
 
-ghost use Rattle.std.specs.Prelude.{◌≡◌, ◌≤◌, ◌+◌, ◌*◌, ℕ, ◌<◌, Some, IfSome, IfNone, IsTrue, true, false, nat_lt, length, map, option_map};
+ghost use Rattle.std.specs.Prelude.{◌≡◌, ◌≤◌, ◌+◌, ◌*◌, ℕ, ◌<◌, Some, IfSome, IfNone, IsTrue, true, false, nat_lt, length, map, option_map, slice_get};
 ghost use Rattle.std.specs.Option.{option_map_or};
 ghost use Rattle.nego_base.specs.Members.{is_in};
-ghost use Rattle.nego_expr.specs.Work.{IsWork, outcome_at};
+ghost use Rattle.nego_expr.specs.Work.{IsWork, WorkOutcome, outcome_at};
 ghost use Rattle.nego_expr.specs.WorkView.{plain_outcome};
 ghost use Rattle.nego_reduce.specs.Changed.{MayOffer};
 ghost use Rattle.nego_reduce.specs.Order.{IsLeastShortcut, HasNoShortcut, takes_shortcut};
@@ -65,36 +65,24 @@ fn least_entry<C: Ledger>(w: &Work, x: &Outcome, steps: &mut Steps<C>) -> Option
     least
 }
 
-/// Whether the outcome's number is below that of the changed one.
-fn is_before(x: &Outcome, changed: Option<&Outcome>) -> bool
-    ensures { result ≡ option_map_or (λ y. nat_lt x.now.number.0 y.now.number.0) changed.entry false }
-{
-    match changed {
-        Some(y) => x.number < y.number,
-        None => false,
-    }
-}
-
-/// The same, where the order takes no shortcut of an outcome before the changed one. Of these nothing is tried.
-fn least_entry_from<C: Ledger>(
-    w: &Work,
-    x: &Outcome,
-    changed: Option<&Outcome>,
-    steps: &mut Steps<C>,
-) -> Option<AtomId>
+/// The place of the outcome that is tried first: the changed one, where it is given, since the order takes no shortcut of
+/// those before it.
+fn first_tried(w: &Work, changed: Option<&Outcome>) -> usize
     requires work { IsWork w.now.plain }
-    requires alive { outcome_at w.now.plain x.now.number.0 ≡ Some (plain_outcome x.now) }
     requires known { MayOffer w.now.plain (option_map (λ y. y.now.number.0) changed) }
-    ensures taken { IfSome result (λ n. IsTrue (takes_shortcut w.now.plain x.now.number.0 n.0)) }
-    ensures least { IfSome result (λ n. (m : ℕ) → m < n.0 → takes_shortcut w.now.plain x.now.number.0 m ≡ false) }
-    ensures none { IfNone result ((m : ℕ) → takes_shortcut w.now.plain x.now.number.0 m ≡ false) }
-    ensures later { steps.old ≤ steps.new }
-    ensures tests { steps.new ≤ steps.old + 16 }
+    ensures skipped { (i : ℕ) (x : WorkOutcome) → i < result → slice_get w.now.plain.outcomes i ≡ Some x → (m : ℕ) → takes_shortcut w.now.plain x.number m ≡ false }
+    ensures within { result ≤ length w.now.plain.outcomes }
 {
-    if is_before(x, changed) {
-        return None;
+    let Some(y) = changed else {
+        return 0;
+    };
+    match w
+        .outcomes()
+        .binary_search_by_key(&y.number.0, |x| x.number.0)
+    {
+        Ok(i) => i,
+        Err(_) => 0,
     }
-    least_entry(w, x, steps)
 }
 
 /// The least shortcut that the order takes, where it takes none of an outcome before the changed one.
@@ -110,8 +98,10 @@ pub(crate) fn least_shortcut<C: Ledger>(
     ensures later { steps.old ≤ steps.new }
     ensures tests { steps.new ≤ steps.old + 16 * length w.now.plain.outcomes }
 {
-    for x in w.outcomes() {
-        if let Some(n) = least_entry_from(w, x, changed, steps) {
+    let outcomes = w.outcomes();
+    for i in first_tried(w, changed)..outcomes.len() {
+        let x = &outcomes[i];
+        if let Some(n) = least_entry(w, x, steps) {
             return Some((x.number, n));
         }
     }
