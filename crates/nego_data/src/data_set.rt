@@ -114,9 +114,11 @@ fn cut(row: &mut [u64; WORDS], count: u16)
 fn unite(words: &mut [u64; WORDS], others: &[u64; WORDS])
     ensures { (e : ℕ) → e / 64 < 16 → is_set words.new e ≡ (is_set words.old e || is_set others.now e) }
 {
+    let mut all = *words;
     for k in 0..WORDS {
-        words[k] |= others[k];
+        all[k] |= others[k];
     }
+    *words = all;
 }
 
 /// The least number from one on that is in the words and not in the others.

@@ -8,7 +8,7 @@ use Rattle.nego_data.proofs.data_set.unite.Goals as goal
 
 pub loop-k-preserved : goal.loop-k-preserved
 loop-k-preserved c =
-    let words = c.loop-k.words in
+    let words = c.loop-k.all in
     let others = c.args.others.now in
     let k = c.loop-k.k in
     let sixteen = c.loop-k.invariant.sixteen in
