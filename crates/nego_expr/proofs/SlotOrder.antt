@@ -1,8 +1,8 @@
 -- The order of slots: it is total, and tells slots apart.
-use Rattle.std.proofs.Common.{◌≡◌, List, [], ◌∷◌, map, Option, Some, None, option_map, refl, sym, ap, ap₂, ◌∙◌}
+use Rattle.std.proofs.Common.{◌≡◌, ◌<◌, ℕ, zero, suc, List, [], ◌∷◌, map, Some, None, refl, sym, ap, ap₂, ◌∙◌, arith}
 use Rattle.std.specs.Option.{option_cmp}
-use Rattle.std.specs.Ordering.{nat_cmp, ordering_then, is_eq}
-use Rattle.std.specs.Cmp.{IsTotalOrder}
+use Rattle.std.specs.Ordering.{MatchOrdering, nat_cmp, ordering_then, is_eq}
+use Rattle.std.specs.Cmp.{IsTotalOrder, nat_cmp_is, ranked}
 use Rattle.std.specs.Cmp.Derive.Mapped.{lex_map}
 use Rattle.std.specs.Cmp.Lexicographic.{slice_cmp, lists_total, options_total}
 use Rattle.std.specs.declared.cmp.Ordering.{Ordering}
@@ -10,24 +10,29 @@ use Rattle.std.specs.declared.cmp.Ordering.TheVariants.{Less, Equal, Greater}
 use Rattle.std.proofs.lemmas.Bool.{false≢true}
 use Rattle.std.proofs.lemmas.Cmp.{nat_cmp_total, on_total, then_total}
 use Rattle.std.proofs.lemmas.Map.Lookups.{CmpEqualImpliesEq, exact_unsigned}
-use Rattle.nego_base.specs.declared.ids.AtomId.{AtomId}
 use Rattle.nego_expr.specs.Sorted.{PlainSlot, slot_cmp}
+use Rattle.nego_expr.specs.Targets.{target_of}
 
 pub slot_order : IsTotalOrder slot_cmp
 slot_order =
     then_total (on_total (λ (s : PlainSlot). s.atom) nat_cmp_total)
     (then_total (on_total (λ (s : PlainSlot). s.targets) (lists_total (options_total nat_cmp_total))) (on_total (λ (s : PlainSlot). s.outcome) nat_cmp_total))
 
--- by the atoms' numbers targets compare as they are seen
-maybe_seen : (p q : Option AtomId) → option_cmp (λ (m n : AtomId). nat_cmp m.0 n.0) p q ≡ option_cmp nat_cmp (option_map (λ n. n.0) p) (option_map (λ n. n.0) q)
-maybe_seen None None = refl
-maybe_seen None (Some n) = refl
-maybe_seen (Some m) None = refl
-maybe_seen (Some m) (Some n) = refl
+-- one more on either side changes no answer
+shifted : (m n : ℕ) (r : Ordering) → MatchOrdering r (m < n) (m ≡ n) (n < m) → MatchOrdering r (suc m < suc n) (suc m ≡ suc n) (suc n < suc m)
+shifted m n Less h = omega (arith, h)
+shifted m n Equal h = ap suc h
+shifted m n Greater h = omega (arith, h)
 
-pub targets_seen : (ps qs : List (Option AtomId)) →
-    slice_cmp (option_cmp (λ (m n : AtomId). nat_cmp m.0 n.0)) ps qs ≡ slice_cmp (option_cmp nat_cmp) (map (option_map (λ n. n.0)) ps) (map (option_map (λ n. n.0)) qs)
-targets_seen ps qs = ap (λ R. slice_cmp R ps qs) (λ i p q. maybe_seen p q i) ∙ sym (lex_map (option_map (λ (n : AtomId). n.0)) (option_cmp nat_cmp) ps qs)
+-- targets compare as the bytes that are kept of them
+maybe_kept : (p q : ℕ) → nat_cmp p q ≡ option_cmp nat_cmp (target_of p) (target_of q)
+maybe_kept zero zero = refl
+maybe_kept zero (suc n) = sym (nat_cmp_is zero (suc n) Less (omega arith))
+maybe_kept (suc m) zero = sym (nat_cmp_is (suc m) zero Greater (omega arith))
+maybe_kept (suc m) (suc n) = sym (nat_cmp_is (suc m) (suc n) (nat_cmp m n) (shifted m n (nat_cmp m n) (ranked m n (nat_cmp m n) refl)))
+
+pub targets_kept : (ps qs : List ℕ) → slice_cmp nat_cmp ps qs ≡ slice_cmp (option_cmp nat_cmp) (map target_of ps) (map target_of qs)
+targets_kept ps qs = ap (λ R. slice_cmp R ps qs) (λ i p q. maybe_kept p q i) ∙ sym (lex_map target_of (option_cmp nat_cmp) ps qs)
 
 -- ---- what compares equal is equal
 

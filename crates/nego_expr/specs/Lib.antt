@@ -10,6 +10,7 @@ pub mod Room
 pub mod Sorted
 pub mod StandsFor
 pub mod SummaryText
+pub mod Targets
 pub mod Use
 pub mod UseView
 pub mod Work

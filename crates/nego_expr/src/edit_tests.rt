@@ -20,25 +20,15 @@ fn edits_follow_one_another(rt: HostRuntime) -> Result<(), Fail> {
     w.room(20_000, 2)?;
     let base = w.add_node(Node::Base(OutcomeId(0)));
     assert!(rt; w.left().has(FIRST) && w.left().has(LAST));
-    let o = w.add_outcome(
-        FIRST,
-        Targets::none(alloc, w.agents()),
-        base,
-        AtomSet::none(),
-    );
-    let p = w.add_outcome(
-        LAST,
-        Targets::none(alloc, w.agents()),
-        base,
-        AtomSet::none(),
-    );
+    let o = w.add_outcome(FIRST, Targets::none(w.agents()), base, AtomSet::none());
+    let p = w.add_outcome(LAST, Targets::none(w.agents()), base, AtomSet::none());
     assert!(rt; o == OutcomeId(0) && p == OutcomeId(1) && w.numbers() == 2);
     assert!(rt; w.alive(o) && w.alive(p) && !w.alive(OutcomeId(2)));
     assert!(rt; w.atom_of(o) == FIRST && w.count_of(LAST) == 1);
     let star = w.add_node(Node::Star(base));
     w.set_outcome(
         p,
-        Targets::none(alloc, w.agents()),
+        Targets::none(w.agents()),
         star,
         AtomSet::none().with(FIRST),
     );

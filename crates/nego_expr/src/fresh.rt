@@ -93,7 +93,7 @@ fn outcomes_of(alloc: Global, d: &Diagram) -> Result<Reserved<Outcome>, Memory>
 {
     let mut outcomes = Reserved::new(alloc, d.outcomes() as usize)?;
     for o in 0..d.outcomes() {
-        outcomes.push(fresh_outcome(alloc, d, OutcomeId(o)));
+        outcomes.push(fresh_outcome(d, OutcomeId(o)));
     }
     Ok(outcomes)
 }
@@ -133,25 +133,25 @@ fn entries_of(outcomes: &[Outcome]) -> Counts
 }
 
 /// The outcome as it is alive at first.
-fn fresh_outcome(alloc: Global, d: &Diagram, o: OutcomeId) -> Outcome
+fn fresh_outcome(d: &Diagram, o: OutcomeId) -> Outcome
     requires { o.0 < length d.now.outcomes }
     ensures { plain_outcome result ≡ fresh_at d.now o.0 }
 {
     Outcome {
         number: o,
         atom: d.atom_of(o),
-        targets: targets_after(alloc, d, o),
+        targets: targets_after(d, o),
         node: NodeId(o.0),
         passed: AtomSet::none(),
     }
 }
 
 /// Where the outcome sends each agent: to its next atom.
-fn targets_after(alloc: Global, d: &Diagram, o: OutcomeId) -> Targets
+fn targets_after(d: &Diagram, o: OutcomeId) -> Targets
     requires { o.0 < length d.now.outcomes }
     ensures { result ≡ map (λ a. slice_get (nexts_of d.now o.0 a) 0) (range_with_len 0 (length d.now.agents)) }
 {
-    let mut targets = Targets::none(alloc, d.agents());
+    let mut targets = Targets::none(d.agents());
     for a in 0..d.agents() {
         let a = AgentId(a);
         if let Some(n) = d.nexts(o, a).least() {

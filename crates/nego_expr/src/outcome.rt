@@ -1,8 +1,8 @@
 //! Alive outcomes of a work.
-ghost use Rattle.std.specs.Prelude.{◌≡◌, option_map};
+ghost use Rattle.std.specs.Prelude.{◌≡◌, ◌<◌, IfSome, option_map};
 ghost use Rattle.nego_expr.specs.Counts.{AreEntered};
 ghost use Rattle.nego_expr.specs.Work.{sent_to};
-ghost use Rattle.nego_expr.specs.Use.{leads_to, send_alike, sends_all};
+ghost use Rattle.nego_expr.specs.Use.{send_alike, sends_all};
 ghost use Rattle.nego_expr.specs.WorkView.{plain_outcome};
 
 use crate::Targets;
@@ -32,7 +32,8 @@ impl Outcome {
 
     /// Where it sends the agent.
     pub fn target(&self, a: AgentId) -> Option<AtomId>
-        ensures { option_map (λ n. n.0) result ≡ sent_to (plain_outcome self.now) a.0 }
+        ensures value { option_map (λ n. n.0) result ≡ sent_to (plain_outcome self.now) a.0 }
+        ensures bound { IfSome result (λ n. n.0 < 255) }
     {
         self.targets.entry(a)
     }
@@ -45,13 +46,6 @@ impl Outcome {
             Some(a) => self.target(a) == Some(n) && self.sends_all(agents.without(a), n),
             None => true,
         }
-    }
-
-    /// Whether it sends some agent to the atom.
-    pub fn leads_to(&self, n: AtomId) -> bool
-        ensures { result ≡ leads_to n.0 (plain_outcome self.now) }
-    {
-        self.targets.lead_to(n)
     }
 
     /// The other atoms to which it sends agents, of those that a set may have.

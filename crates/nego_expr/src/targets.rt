@@ -1,77 +1,77 @@
 //! Where an outcome sends the agents.
-ghost use Rattle.std.specs.Prelude.{◌≡◌, ◌==◌, ◌<◌, ◌≤◌, ◌&&◌, ◌||◌, not, nat_lt, ℕ, Some, None, replicate, length, slice_get, slice_index_or, slice_set, option_map};
+ghost use Rattle.std.specs.Prelude.{◌≡◌, ◌==◌, ◌<◌, ◌≤◌, ◌&&◌, ◌||◌, not, nat_lt, ℕ, Some, None, IfSome, replicate, length, slice_get, slice_index_or, slice_set, map, option_map};
 ghost use Rattle.std.specs.List.{list_any};
 ghost use Rattle.std.specs.Option.{option_cmp};
 ghost use Rattle.std.specs.Ordering.{nat_cmp};
 ghost use Rattle.std.specs.Cmp.Lexicographic.{slice_cmp};
 ghost use Rattle.nego_base.specs.Members.{is_in};
 ghost use Rattle.nego_expr.specs.Use.{same_target};
+ghost use Rattle.nego_expr.specs.Targets.{target_of};
 
 use nego_base::{AgentId, AtomId, AtomSet};
-use smallvec::SmallVec;
-use std::alloc::Global;
 use std::cmp::Ordering;
 use std::marker::Model;
 
 /// The most agents that there are.
 const MOST: usize = 16;
 
-/// Where an outcome sends each agent: an atom or nothing. Contracts see one entry for each agent. There is room in
-/// place for 16, so nothing here takes memory.
+/// Where an outcome sends each agent: an atom or nothing. Contracts see one entry for each agent. A byte is kept for
+/// each: 0 for nothing, and else one more than the atom's number.
 #[derive(Debug, Drop)]
 pub struct Targets {
-    entries: SmallVec<Option<AtomId>, 16>,
+    entries: [u8; MOST],
+    agents: u8,
 }
 
 impl Model for Targets {
-    ghost use Rattle.std.specs.Prelude.{ℕ, ◌≤◌, List, Option, map, option_map, length};
+    ghost use Rattle.std.specs.Prelude.{ℕ, ◌≤◌, List, Option, map, take};
+    ghost use Rattle.nego_expr.specs.Targets.{target_of};
 
     ghost Value = { List (Option ℕ) };
 
-    ghost view = { λ t. map (option_map (λ n. n.0)) t.entries.items };
+    ghost view = { λ t. map target_of (take t.agents t.entries) };
 
-    ghost invariant = { λ t. length t.entries.items ≤ 16 };
+    ghost invariant = { λ t. t.agents ≤ 16 };
 }
 
 impl Targets {
     /// Nothing for each of so many agents.
-    pub fn none(alloc: Global, agents: u32) -> Targets
+    pub fn none(agents: u32) -> Targets
         requires { agents ≤ 16 }
         ensures { result ≡ replicate agents None }
     {
-        let nothing = [None; MOST];
         Targets {
-            entries: SmallVec::from_slice(alloc, &nothing[..agents as usize]).unwrap(),
+            entries: [0; MOST],
+            agents: agents as u8,
         }
     }
 
     /// Where the agent is sent.
     pub fn get(&self, a: AgentId) -> Option<AtomId>
         requires { a.0 < length self.now }
-        ensures { slice_get self.now a.0 ≡ Some (option_map (λ n. n.0) result) }
+        ensures value { slice_get self.now a.0 ≡ Some (option_map (λ n. n.0) result) }
+        ensures bound { IfSome result (λ n. n.0 < 255) }
     {
-        self.entries.as_slice()[a.0 as usize]
+        atom_of(self.entries[a.0 as usize])
     }
 
     /// The same for an agent of any number: one past the end is sent nowhere.
     pub(crate) fn entry(&self, a: AgentId) -> Option<AtomId>
-        ensures { option_map (λ n. n.0) result ≡ slice_index_or self.now a.0 None }
+        ensures value { option_map (λ n. n.0) result ≡ slice_index_or self.now a.0 None }
+        ensures bound { IfSome result (λ n. n.0 < 255) }
     {
-        self.entries.as_slice().get(a.0 as usize).copied().flatten()
-    }
-
-    /// Whether some agent is sent to the atom.
-    pub(crate) fn lead_to(&self, n: AtomId) -> bool
-        ensures { result ≡ list_any (λ target. same_target target (Some n.0)) self.now }
-    {
-        any_is(self.entries.as_slice(), n)
+        if a.0 < self.agents as u32 {
+            self.get(a)
+        } else {
+            None
+        }
     }
 
     /// The atoms that are targets, but for the given one, and of those that a set may have.
     pub(crate) fn others(&self, n: AtomId) -> AtomSet
         ensures { (m : ℕ) → is_in m result ≡ (nat_lt m 64 && (not (n.0 == m) && list_any (λ target. same_target target (Some m)) self.now)) }
     {
-        let _entries = &self.entries;
+        let _agents = self.agents;
         let mut atoms = AtomSet::none();
         for a in 0..16 {
             atoms = with_other(atoms, self.entry(AgentId(a)), n);
@@ -83,33 +83,45 @@ impl Targets {
     pub fn compare(&self, other: &Targets) -> Ordering
         ensures { result ≡ slice_cmp (option_cmp nat_cmp) self.now other.now }
     {
-        self.entries.as_slice().cmp(other.entries.as_slice())
+        self.kept().cmp(other.kept())
     }
 
     /// Sends the agent to the atom.
     pub fn set(&mut self, a: AgentId, n: AtomId)
-        requires { a.0 < length self.old }
+        requires agent { a.0 < length self.old }
+        requires bound { n.0 < 255 }
         ensures { self.new ≡ slice_set self.old a.0 (Some n.0) }
     {
-        self.entries.as_mut_slice()[a.0 as usize] = Some(n);
+        self.entries[a.0 as usize] = n.0 as u8 + 1;
     }
 
     /// The same targets once more.
     pub fn copy(&self) -> Targets
         ensures { result ≡ self.now }
     {
-        let entries = &self.entries;
         Targets {
-            entries: SmallVec::from_slice(*entries.allocator(), entries.as_slice()).unwrap(),
+            entries: self.entries,
+            agents: self.agents,
         }
+    }
+
+    /// What is kept of the agents.
+    fn kept(&self) -> &[u8]
+        ensures { self.now ≡ map target_of result.now }
+    {
+        &self.entries[..self.agents as usize]
     }
 }
 
-/// Whether some target is the atom.
-fn any_is(targets: &[Option<AtomId>], n: AtomId) -> bool
-    ensures { result ≡ list_any (λ target. same_target (option_map (λ m. m.0) target) (Some n.0)) targets.now }
+/// The atom of which this byte is kept.
+fn atom_of(kept: u8) -> Option<AtomId>
+    ensures value { option_map (λ n. n.0) result ≡ target_of kept }
+    ensures bound { IfSome result (λ n. n.0 < 255) }
 {
-    targets.iter().any(|target| is_atom(*target, n))
+    match kept {
+        0 => None,
+        _ => Some(AtomId(kept as u32 - 1)),
+    }
 }
 
 /// The atoms with the target too, where it is another than the given one, and one that a set may have.
@@ -120,11 +132,4 @@ fn with_other(atoms: AtomSet, target: Option<AtomId>, n: AtomId) -> AtomSet
         Some(k) if k != n && k.0 < 64 => atoms.with(k),
         _ => atoms,
     }
-}
-
-/// Whether the target is the atom.
-fn is_atom(target: Option<AtomId>, n: AtomId) -> bool
-    ensures { result ≡ same_target (option_map (λ m. m.0) target) (Some n.0) }
-{
-    target == Some(n)
 }

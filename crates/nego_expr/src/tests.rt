@@ -25,13 +25,13 @@ static MADE: [Node; 10] = [
 
 #[test]
 fn values_answer(rt: HostRuntime) -> Result<(), Fail> {
-    targets(&rt, rt.alloc());
+    targets(&rt);
     summaries(&rt, rt.alloc())?;
     Ok(())
 }
 
-fn targets(rt: &impl Abort, alloc: Global) {
-    let mut targets = Targets::none(alloc, 16);
+fn targets(rt: &impl Abort) {
+    let mut targets = Targets::none(16);
     targets.set(AgentId(15), AtomId(3));
     let before = targets.copy();
     targets.set(AgentId(0), AtomId(63));

@@ -4,8 +4,8 @@ use Rattle.nego_expr.proofs.FreshSteps.{length-sent_so_far, sent_more, sent_nowh
 use Rattle.nego_expr.proofs.fresh.targets_after.Goals as goal
 use Rattle.nego_expr.proofs.fresh.targets_after.Goals.{in-Some, in_default}
 
-pub set-requires : goal.set-requires
-set-requires c =
+pub set-requires-clause-agent : goal.set-requires-clause-agent
+set-requires-clause-agent c =
     let d = c.args.d.now in
     let count = length d.agents in
     let next : ℕ → Option ℕ = λ a. slice_get (nexts_of d c.args.o.0 a) 0 in

@@ -15,7 +15,7 @@ loop-a-init g c = record {
 
 pub takes_shortcut-requires-clause-left : goal.takes_shortcut-requires-clause-left
 takes_shortcut-requires-clause-left g c =
-    sent_there c.args.w.now.plain c.requires.work (plain_outcome c.args.x.now) c.requires.alive c.loop-a.a c.in-Some.n.0 (sym c.target.ensures ∙ ap (option_map (λ n. n.0)) c.in-Some.is)
+    sent_there c.args.w.now.plain c.requires.work (plain_outcome c.args.x.now) c.requires.alive c.loop-a.a c.in-Some.n.0 (sym c.target.ensures.value ∙ ap (option_map (λ n. n.0)) c.in-Some.is)
 
 pub loop-a-preserved : goal.loop-a-preserved
 loop-a-preserved g c =
@@ -27,7 +27,7 @@ loop-a-preserved g c =
     elim c.match-target.branch [
       | in-Some+then-is_below+then-takes_shortcut w ↦
           let n = w.in-Some.n.0 in
-          let sent = sym c.target.ensures ∙ ap (option_map (λ m. m.0)) w.in-Some.is in
+          let sent = sym c.target.ensures.value ∙ ap (option_map (λ m. m.0)) w.in-Some.is in
           let below = sym (below_seen n c.loop-a.least) ∙ (sym w.is_below.ensures ∙ w.if-is_below.true) in
           let more = w.takes_shortcut.ensures.later in
           let few = w.takes_shortcut.ensures.tests in
@@ -38,7 +38,7 @@ loop-a-preserved g c =
           })
       | in-Some+else-is_below w ↦
           let n = w.in-Some.n.0 in
-          let sent = sym c.target.ensures ∙ ap (option_map (λ m. m.0)) w.in-Some.is in
+          let sent = sym c.target.ensures.value ∙ ap (option_map (λ m. m.0)) w.in-Some.is in
           elim w.else-is_below.branch [
             | else-is_below-via-then-is_below+else-takes_shortcut v ↦
                 let more = v.takes_shortcut.ensures.later in
@@ -60,7 +60,7 @@ loop-a-preserved g c =
           ]
       | in_default w ↦
           rw (w.least-is, w.steps-is) (record {
-            least = so_far_kept work c.requires.work x c.requires.alive c.loop-a.a (option_map (λ m. m.0) c.loop-a.least) (λ m e. absurd (none-some m (w.in_default.ensures ∙ e))) so_far;
+            least = so_far_kept work c.requires.work x c.requires.alive c.loop-a.a (option_map (λ m. m.0) c.loop-a.least) (λ m e. absurd (none-some m (w.in_default.ensures.value ∙ e))) so_far;
             later = omega (arith, later);
             tests = omega (arith, tests);
           })

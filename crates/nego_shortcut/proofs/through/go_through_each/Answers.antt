@@ -9,7 +9,7 @@ use Rattle.nego_shortcut.specs.Passing.{MayPass, passed_one}
 use Rattle.nego_shortcut.proofs.ShortWorks.{IsEntry, entry_from}
 use Rattle.nego_shortcut.proofs.Passed.{IsUpTo, next_of, more_places, may_pass_next, room_next, own_passed, other_passed}
 use Rattle.nego_shortcut.proofs.through.go_through_each.Goals as goal
-use Rattle.nego_shortcut.proofs.through.go_through_each.Goals.{After-eq, then-eq+in-Heap-1, then-eq+in-Inline-1, else-eq}
+use Rattle.nego_shortcut.proofs.through.go_through_each.Goals.{After-eq, then-eq, else-eq}
 
 module _ (c : After-eq) where
   abbrev from : PlainWork
@@ -91,9 +91,7 @@ loop-i-preserved c =
     let b = (goal.at.loop-i-preserved c).After-eq in
     let k = next b in
     elim c.if-eq.branch [
-      | then-eq+in-Heap-1 w ↦
-          rw (w.w-is, w.is_first-is) (own_more b w.if-eq.true (plain_outcome w.copy-y.result) w.copy-y.ensures w.pass.new.w.plain w.pass.new.w.spare_nodes w.pass.new.w.spare_outcomes w.pass.ensures.plain w.pass.ensures.nodes w.pass.ensures.outcomes)
-      | then-eq+in-Inline-1 w ↦
+      | then-eq w ↦
           rw (w.w-is, w.is_first-is) (own_more b w.if-eq.true (plain_outcome w.copy-y.result) w.copy-y.ensures w.pass.new.w.plain w.pass.new.w.spare_nodes w.pass.new.w.spare_outcomes w.pass.ensures.plain w.pass.ensures.nodes w.pass.ensures.outcomes)
       | else-eq w ↦
           rw (w.w-is, w.is_first-is)

@@ -11,7 +11,7 @@ use Rattle.nego_expr.proofs.Places.{remove-seen}
 use Rattle.nego_expr.proofs.RisingLists.{Contains-remove}
 use Rattle.nego_expr.proofs.SlotOrder.{slot_order}
 use Rattle.nego_expr.proofs.slots.Slots.remove.Goals as goal
-use Rattle.nego_expr.proofs.slots.Slots.remove.Goals.{After-place_of_slot-i, Joined-remove}
+use Rattle.nego_expr.proofs.slots.Slots.remove.Goals.{After-place_of_slot-i, After-remove}
 
 pub place_of_slot-i-requires-clause-there : goal.place_of_slot-i-requires-clause-there
 place_of_slot-i-requires-clause-there c =
@@ -33,12 +33,12 @@ remove-requires c =
     (slice_get_within (map plain_slot c.self.inside.slots.items) c.place_of_slot-i.result (slot_of (plain_outcome c.args.x.now)) (place (goal.at.remove-requires c).After-place_of_slot-i))
 
 -- the slots after the edit
-after : (c : Joined-remove) → map plain_slot c.remove.new.self.items ≡ remove (map plain_slot c.self.inside.slots.items) c.place_of_slot-i.result
+after : (c : After-remove) → map plain_slot c.remove.new.self.items ≡ remove (map plain_slot c.self.inside.slots.items) c.place_of_slot-i.result
 after c = ap (map plain_slot) c.remove.ensures.items ∙ remove-seen plain_slot c.self.inside.slots.items c.place_of_slot-i.result
 
 pub invariant_of-self : goal.invariant_of-self
 invariant_of-self c =
-    subst (AllPairs IsBelow) (sym (after (goal.at.invariant_of-self c).Joined-remove))
+    subst (AllPairs IsBelow) (sym (after (goal.at.invariant_of-self c).After-remove))
     (all_pairs_remove IsBelow (map plain_slot c.self.inside.slots.items) c.place_of_slot-i.result
     (slice_get_within (map plain_slot c.self.inside.slots.items) c.place_of_slot-i.result (slot_of (plain_outcome c.args.x.now)) (place (goal.at.invariant_of-self c).After-place_of_slot-i)) c.self.invariant)
 
@@ -46,5 +46,5 @@ pub returns-clause-items : goal.returns-clause-items
 returns-clause-items c =
     let xs = map plain_slot c.self.inside.slots.items in
     let y = slot_of (plain_outcome c.args.x.now) in
-    rw (← c.self.view_is) (λ slot. subst (λ l. Contains l slot ↔ (Contains xs slot × (slot ≢ y))) (sym (after (goal.at.returns-clause-items c).Joined-remove))
+    rw (← c.self.view_is) (λ slot. subst (λ l. Contains l slot ↔ (Contains xs slot × (slot ≢ y))) (sym (after (goal.at.returns-clause-items c).After-remove))
     (Contains-remove slot_cmp slot_order xs c.place_of_slot-i.result y slot c.self.invariant (place (goal.at.returns-clause-items c).After-place_of_slot-i)))

@@ -1,10 +1,11 @@
-use Rattle.std.proofs.Common.{◌≡◌, ⊎_elim, ℕ, ◌+◌, ◌==◌, ◌&&◌, ◌||◌, not, nat_lt, Bool, true, false, List, [], ◌∷◌, Option, Some, None, get_or, length, option_map, take, refl, sym, ap, ap₂, ◌∙◌, arith}
+use Rattle.std.proofs.Common.{◌≡◌, ◌≤◌, ⊎_elim, ℕ, ◌+◌, ◌==◌, ◌&&◌, ◌||◌, not, nat_lt, Bool, true, false, List, [], ◌∷◌, Option, Some, None, get_or, length, take, refl, sym, subst, ap, ap₂, ◌∙◌, arith}
 use Rattle.std.specs.List.{list_any}
 use Rattle.std.proofs.Math.ListN.{get_or-eq_default}
+use Rattle.std.proofs.Math.Nat.{min-le_left}
 use Rattle.std.proofs.lemmas.Bool.{cases_lt}
-use Rattle.std.proofs.lemmas.List.{length-map, take_all, take_more}
+use Rattle.std.proofs.lemmas.List.{length-map, length-take, take_all, take_more}
 use Rattle.std.proofs.lemmas.List.Folds.{list_any-append}
-use Rattle.nego_base.specs.declared.ids.AtomId.{AtomId}
+use Rattle.nego_expr.specs.Targets.{target_of}
 use Rattle.nego_expr.specs.Use.{same_target}
 use Rattle.nego_expr.proofs.targets.Targets.others.Goals as goal
 
@@ -37,11 +38,13 @@ loop-a-preserved c m =
     let a = c.loop-a.a in
     let ts = c.args.self.now in
     c.with_other-atoms.ensures m
-    ∙ (ap₂ (λ b t. b || (nat_lt m 64 && (not (c.args.n.0 == m) && is t))) (c.loop-a.invariant m) c.entry.ensures
+    ∙ (ap₂ (λ b t. b || (nat_lt m 64 && (not (c.args.n.0 == m) && is t))) (c.loop-a.invariant m) c.entry.ensures.value
     ∙ (spread (nat_lt m 64) (not (c.args.n.0 == m)) (list_any is (take a ts)) (is (get_or ts a None)) ∙ ap (λ b. nat_lt m 64 && (not (c.args.n.0 == m) && b)) (sym (any_more is refl ts a))))
 
 pub returns : goal.returns
 returns c m =
-    let seen : length c.args.self.now ≡ length c.self.inside.entries.items = ap length (sym c.self.view_is) ∙ length-map c.self.inside.entries.items (option_map (λ (k : AtomId). k.0)) in
+    let kept = c.self.inside.entries in
+    let agents = c.self.inside.agents in
+    let seen : length c.args.self.now ≤ agents = subst (λ n. n ≤ agents) (sym (ap length (sym c.self.view_is) ∙ (length-map (take agents kept) target_of ∙ length-take agents kept))) (min-le_left agents (length kept)) in
     let all : take c.loop-a.a c.args.self.now ≡ c.args.self.now = take_all c.loop-a.a c.args.self.now (omega (arith, seen, c.self.invariant, c.loop-a-test.false)) in
     c.loop-a.invariant m ∙ ap (λ (ts : List (Option ℕ)). nat_lt m 64 && (not (c.args.n.0 == m) && list_any (λ target. same_target target (Some m)) ts)) all
