@@ -94,12 +94,19 @@ fn first_fault(bytes: &[u8]) -> Option<Fault>
     None
 }
 
+/// How many blanks a line has.
+fn blanks(line: &[u8]) -> usize
+    ensures { result ≤ length line.now }
+{
+    line.iter().filter(|b| is_blank(**b)).count()
+}
+
 /// The words of a line without its end.
 fn words_of(alloc: Global, number: u32, line: &[u8]) -> Result<Seq<Word>, Memory>
     requires { length line.now < 2 ^ 32 - 1 }
     ensures { IfOk result (λ words. words ≡ words_at number 1 line.now) }
 {
-    let mut words = Seq::new(alloc);
+    let mut words = Seq::from_vec(Vec::with_capacity(alloc, blanks(line) + 1)?);
     let mut rest = from_word(line);
     while !rest.is_empty() {
         let column = (line.len() - rest.len()) as u32 + 1;
