@@ -30,7 +30,7 @@ fn is_comment(line: &[u8]) -> bool
 fn may_stand(b: u8) -> bool
     ensures { result ≡ may_stand b }
 {
-    is_blank(b) || (33..=126).contains(&b)
+    (33..=126).contains(&b) || is_blank(b)
 }
 
 /// Where the first byte is that may not stand in a line.
@@ -94,11 +94,11 @@ fn first_fault(bytes: &[u8]) -> Option<Fault>
     None
 }
 
-/// How many blanks a line has.
-fn blanks(line: &[u8]) -> usize
+/// How many spaces a line has.
+fn spaces(line: &[u8]) -> usize
     ensures { result ≤ length line.now }
 {
-    line.iter().filter(|b| is_blank(**b)).count()
+    line.iter().filter(|b| **b == b' ').count()
 }
 
 /// The words of a line without its end.
@@ -106,7 +106,7 @@ fn words_of(alloc: Global, number: u32, line: &[u8]) -> Result<Seq<Word>, Memory
     requires { length line.now < 2 ^ 32 - 1 }
     ensures { IfOk result (λ words. words ≡ words_at number 1 line.now) }
 {
-    let mut words = Seq::from_vec(Vec::with_capacity(alloc, blanks(line) + 1)?);
+    let mut words = Seq::from_vec(Vec::with_capacity(alloc, spaces(line) + 1)?);
     let mut rest = from_word(line);
     while !rest.is_empty() {
         let column = (line.len() - rest.len()) as u32 + 1;

@@ -4,7 +4,7 @@ ghost use Rattle.std.specs.List.{list_all};
 ghost use Rattle.nego_base.specs.Lines.{lines, is_newline, is_blank, is_word_end, without_end, words};
 ghost use Rattle.nego_base.specs.Scan.{word_at, words_at};
 
-use memchr::memchr;
+use memchr::{memchr, memchr2};
 
 /// Whether the byte is a space or a tab.
 pub(crate) fn is_blank(b: u8) -> bool
@@ -33,7 +33,7 @@ fn blank_place(bytes: &[u8]) -> Option<usize>
     ensures place { result ≡ position is_blank bytes.now }
     ensures within { IfSome result (λ i. i < length bytes.now) }
 {
-    bytes.iter().position(|b| is_blank(*b))
+    memchr2(b' ', b'\t', bytes)
 }
 
 /// The place of the first byte that is no blank.
