@@ -5,6 +5,7 @@ ghost use Rattle.nego_base.specs.Scan.{is_comment, may_stand, bad_byte, line_fau
 
 use crate::splitting::{all_blank, cut_line, cut_word, from_word, is_blank, line_body};
 use crate::{Fault, FaultKind, Line, Lines, Memory, ScanAnswer, Seq, ShortText, Word};
+use memchr::memchr_iter;
 use std::alloc::Global;
 
 /// The most bytes that a line has without its end.
@@ -98,7 +99,7 @@ fn first_fault(bytes: &[u8]) -> Option<Fault>
 fn spaces(line: &[u8]) -> usize
     ensures { result ≤ length line.now }
 {
-    line.iter().filter(|b| **b == b' ').count()
+    memchr_iter(b' ', line).count()
 }
 
 /// The words of a line without its end.
