@@ -19,3 +19,4 @@ pub mod DataSets
 pub mod Lending
 pub mod Assignments
 pub mod CountingUp
+pub mod Makers

@@ -13,3 +13,4 @@ pub mod Given
 pub mod Locality
 pub mod Covered
 pub mod Assignments
+pub mod Makers

@@ -1,7 +1,8 @@
 //! The values of all joint data, counted up.
-ghost use Rattle.std.specs.Prelude.{◌≡◌, ◌+◌, ◌<◌, map, IfOk};
+ghost use Rattle.std.specs.Prelude.{◌≡◌, ◌+◌, ◌<◌, map, IfOk, OnOk, OnErr};
 ghost use Rattle.std.specs.List.{range_with_len};
 ghost use Rattle.nego_data.specs.Data.{data_count, joint};
+ghost use Rattle.nego_data.specs.Makers.{AreMadeOnce};
 ghost use Rattle.nego_data.specs.Sizes.{IsTuple, tuple_of};
 
 use crate::Sizes;
@@ -9,8 +10,24 @@ use crate::places::place_of;
 use nego_base::{AgentId, Memory, Seq};
 use std::alloc::Global;
 
+/// Makes the values of all joint data, one after the other, where they weren't made.
+pub(crate) fn make_once(
+    alloc: Global,
+    sizes: &Sizes,
+    values: &mut Seq<[u16; 16]>,
+) -> Result<(), Memory>
+    requires { AreMadeOnce sizes.now values.old }
+    ensures ok { OnOk result (values.new ≡ map (tuple_of sizes.now) (range_with_len 0 (data_count sizes.now))) }
+    ensures err { OnErr result (values.new ≡ values.old) }
+{
+    if values.is_empty() {
+        *values = all_values(alloc, sizes)?;
+    }
+    Ok(())
+}
+
 /// The values of all joint data, one after the other.
-pub(crate) fn all_values(alloc: Global, sizes: &Sizes) -> Result<Seq<[u16; 16]>, Memory>
+fn all_values(alloc: Global, sizes: &Sizes) -> Result<Seq<[u16; 16]>, Memory>
     ensures { IfOk result (λ values. values ≡ map (tuple_of sizes.now) (range_with_len 0 (data_count sizes.now))) }
 {
     let mut values = Seq::new(alloc);

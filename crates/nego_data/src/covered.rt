@@ -15,7 +15,7 @@ use crate::covering::test_holds;
 use nego_base::Seq;
 
 /// Of how many comparisons it is kept where they hold.
-const MOST_KNOWN: usize = 64;
+const MOST_KNOWN: usize = 128;
 
 /// A comparison, and the joint data of which it holds.
 #[derive(Clone, Copy, Debug)]
@@ -65,6 +65,15 @@ fn those_of(known: &mut Seq<Known>, sizes: &Sizes, values: &[[u16; 16]], test: &
         let _ = known.push(Known { test: *test, set });
     }
     set
+}
+
+/// Makes room for the comparisons of another table's cases, where many are known.
+pub(crate) fn forget_known(known: &mut Seq<Known>)
+    ensures { (sizes : List ℕ) → All (IsKnown sizes) known.old → All (IsKnown sizes) known.new }
+{
+    if known.len() > MOST_KNOWN / 2 {
+        known.clear();
+    }
 }
 
 /// The joint data that the case covers: those of which all its comparisons hold.

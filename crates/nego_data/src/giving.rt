@@ -1,19 +1,29 @@
 //! What a case gives the agents: the values that it fixes, and the agents that may have any.
-ghost use Rattle.std.specs.Prelude.{◌≡◌, ℕ, ◌+◌, ◌<◌, ◌&&◌, ◌==◌, nat_lt, map, slice_index, length, All};
+ghost use Rattle.std.specs.Prelude.{◌≡◌, ℕ, List, ◌+◌, ◌<◌, ◌==◌, map, slice_index, length, All, IfSome};
 ghost use Rattle.std.specs.List.{list_any, range_with_len};
 ghost use Rattle.nego_base.specs.Members.{is_in};
-ghost use Rattle.nego_data.specs.BitRows.{is_set};
 ghost use Rattle.nego_data.specs.Data.{data_count, split, joint};
 ghost use Rattle.nego_data.specs.Sizes.{AreBelow, AreSizes, tuple_of};
 ghost use Rattle.nego_data.specs.Cases.{term_for};
 ghost use Rattle.nego_data.specs.CaseForm.{AssignsBelow, AssignsOnce, FitsSize, SetBelow, TermBelow};
+ghost use Rattle.nego_data.specs.Makers.{AreOffsets, HasOffsets};
 ghost use Rattle.nego_data.specs.Given.{offsets_of, is_above, least_values, least_given, least_after, is_any, is_free, is_offset};
 
 use crate::Sizes;
 use crate::bit_row::BitRow;
 use crate::cases::{Case, Term};
 use crate::places::place_of;
-use nego_base::{AgentId, AgentSet};
+use nego_base::{AgentId, AgentSet, Seq};
+
+/// Of how many sets of free agents the offsets are kept.
+const MOST_OFFSETS: usize = 128;
+
+/// Agents who are free, as they may have any value, and their offsets.
+#[derive(Clone, Copy, Debug)]
+pub(crate) struct FreeOffsets {
+    free: AgentSet,
+    those: BitRow,
+}
 
 /// The least values that the agents may have after the case.
 fn least_values(sizes: &Sizes, case: &Case, old: &[u16; 16]) -> [u16; 16]
@@ -93,22 +103,73 @@ fn is_any(term: Term) -> bool
 }
 
 /// The offsets of the free agents: the joint data in which no other agent has a value above 0. `None` where no agent is
-/// free, and the one offset is 0. The values are those of all joint data.
-pub(crate) fn offsets(sizes: &Sizes, values: &[[u16; 16]], free: AgentSet) -> Option<BitRow>
+/// free, and the one offset is 0. The values are those of all joint data. The offsets are kept from then on, where there
+/// is room and memory.
+pub(crate) fn offsets_above(
+    kept: &mut Seq<FreeOffsets>,
+    sizes: &Sizes,
+    values: &[[u16; 16]],
+    free: AgentSet,
+) -> Option<BitRow>
     requires sizes { AreSizes sizes.now }
     requires values { values.now ≡ map (tuple_of sizes.now) (range_with_len 0 (data_count sizes.now)) }
-    ensures { (least e : ℕ) → is_above result least e ≡ list_any (λ o. least + o == e) (offsets_of sizes.now free) }
+    requires kept { All (HasOffsets sizes.now) kept.old }
+    ensures above { (least e : ℕ) → is_above result least e ≡ list_any (λ o. least + o == e) (offsets_of sizes.now free) }
+    ensures kept { All (HasOffsets sizes.now) kept.new }
 {
     if free.least().is_none() {
         return None;
     }
-    Some(row_of_offsets(sizes, values, free))
+    Some(offsets_once(kept, sizes, values, free))
+}
+
+/// The offsets of the free agents, which are looked up, or made and kept.
+fn offsets_once(
+    kept: &mut Seq<FreeOffsets>,
+    sizes: &Sizes,
+    values: &[[u16; 16]],
+    free: AgentSet,
+) -> BitRow
+    requires values { values.now ≡ map (tuple_of sizes.now) (range_with_len 0 (data_count sizes.now)) }
+    requires kept { All (HasOffsets sizes.now) kept.old }
+    ensures offsets { AreOffsets sizes.now free result.words }
+    ensures kept { All (HasOffsets sizes.now) kept.new }
+{
+    if let Some(those) = offsets_kept(kept.as_slice(), free) {
+        return those;
+    }
+    let those = row_of_offsets(sizes, values, free);
+    if kept.len() < MOST_OFFSETS {
+        let _ = kept.push(FreeOffsets { free, those });
+    }
+    those
+}
+
+/// The offsets of the free agents, where they are kept.
+fn offsets_kept(kept: &[FreeOffsets], free: AgentSet) -> Option<BitRow>
+    ensures { (sizes : List ℕ) → All (HasOffsets sizes) kept.now → IfSome result (λ those. AreOffsets sizes free those.words) }
+{
+    for one in kept {
+        if one.free == free {
+            return Some(one.those);
+        }
+    }
+    None
+}
+
+/// Makes room for the offsets of another table's cases, where many are kept.
+pub(crate) fn forget_offsets(kept: &mut Seq<FreeOffsets>)
+    ensures { (sizes : List ℕ) → All (HasOffsets sizes) kept.old → All (HasOffsets sizes) kept.new }
+{
+    if kept.len() > MOST_OFFSETS / 2 {
+        kept.clear();
+    }
 }
 
 /// The offsets of the free agents as a row of bits.
 fn row_of_offsets(sizes: &Sizes, values: &[[u16; 16]], free: AgentSet) -> BitRow
     requires { values.now ≡ map (tuple_of sizes.now) (range_with_len 0 (data_count sizes.now)) }
-    ensures { (o : ℕ) → is_set result.words o ≡ (is_offset free (tuple_of sizes.now o) && nat_lt o (data_count sizes.now)) }
+    ensures { AreOffsets sizes.now free result.words }
 {
     let mut offsets = BitRow::none();
     for o in 0..sizes.all() {

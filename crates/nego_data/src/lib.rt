@@ -17,11 +17,13 @@ mod parts;
 mod places;
 mod rows;
 mod table;
+mod table_maker;
 #[cfg(test)]
 mod tests;
 
 pub use data_set::DataSet;
 pub use joint_data::{SizeFault, Sizes};
 pub use lender::Lender;
-pub use making::{TableFault, table_of};
+pub use making::TableFault;
 pub use table::Table;
+pub use table_maker::TableMaker;

@@ -1,27 +1,25 @@
-//! The table of an outcome's cases.
+//! The rows of an outcome's cases.
 ghost use Rattle.std.specs.Prelude.{◌≡◌, ◌≢◌, ℕ, ◌<◌, ◌≤◌, ◌&&◌, ◌||◌, ◌==◌, [], ◌∷◌, length, map, All, IsTrue, IfOk, IfErr, IfSome};
 ghost use Rattle.nego_data.specs.Data.{data_count};
 ghost use Rattle.nego_data.specs.Tables.{IsTable, is_related};
 ghost use Rattle.nego_data.specs.Cases.{covers, relates, rows_of};
-ghost use Rattle.nego_data.specs.CaseForm.{NamesOnly, AssignsOnce, AssignsBelow, IsNamedBelow, AllCovered, HasTableFault, first_uncovered, named_uncovered};
+ghost use Rattle.nego_data.specs.CaseForm.{AssignsOnce, AssignsBelow, IsNamedBelow, AllCovered};
 ghost use Rattle.std.specs.List.{list_all, range_with_len};
 ghost use Rattle.nego_data.specs.Given.{is_above};
 ghost use Rattle.nego_data.specs.Sizes.{tuple_of};
-ghost use Rattle.nego_data.specs.Covered.{AreThose, keep_all, keeps_all};
+ghost use Rattle.nego_data.specs.Covered.{AreThose, IsKnown, keep_all, keeps_all};
 ghost use Rattle.nego_data.specs.Assignments.{IsApplied};
-ghost use Rattle.nego_data.specs.Locality.{ActsOn};
+ghost use Rattle.nego_data.specs.Makers.{HasOffsets};
 ghost use Rattle.nego_data.specs.declared.making.TableFault.TheVariants.{Memory as Starved};
 
+use crate::Sizes;
 use crate::applied::{Applied, applied_to, keep_applied};
 use crate::bit_row::BitRow;
 use crate::cases::Case;
-use crate::counting::all_values;
-use crate::covered::{has_all, those_covered};
-use crate::covering::first_uncovered;
-use crate::giving::{free_agents, least_number, offsets};
+use crate::covered::{Known, has_all, those_covered};
+use crate::giving::{FreeOffsets, free_agents, least_number, offsets_above};
 use crate::rows::Rows;
-use crate::{Sizes, Table};
-use nego_base::{AgentSet, Memory, Seq};
+use nego_base::{Memory, Seq};
 use std::alloc::Global;
 use thiserror::Error;
 
@@ -44,73 +42,51 @@ impl From<Memory> for TableFault {
     }
 }
 
-/// The table of an outcome's cases, whose atom has these parties. It relates joint data as the cases do, each to some,
-/// and reads and changes the values of the parties alone. The answer is `NotTotal` exactly where no case covers some
-/// joint data.
-pub fn table_of(
+/// The rows of the cases over joint data of these sizes, which have these values. `None` where no case covers some of
+/// these.
+pub(crate) fn rows_of_cases(
     alloc: Global,
     sizes: &Sizes,
-    parties: AgentSet,
+    values: &[[u16; 16]],
+    known: &mut Seq<Known>,
+    offsets: &mut Seq<FreeOffsets>,
     cases: &[Case],
-) -> Result<Table, TableFault>
-    requires parties { All (λ a. a < length sizes.now) parties }
-    requires named { All (NamesOnly parties) cases.now }
+) -> Result<Option<Rows>, Memory>
+    requires values { values.now ≡ map (tuple_of sizes.now) (range_with_len 0 (data_count sizes.now)) }
+    requires known { All (IsKnown sizes.now) known.old }
+    requires offsets { All (HasOffsets sizes.now) offsets.old }
+    requires named { All (IsNamedBelow (length sizes.now)) cases.now }
     requires once { All AssignsOnce cases.now }
     requires fits { All (AssignsBelow sizes.now) cases.now }
-    ensures rows { IfOk result (λ table. table ≡ rows_of sizes.now cases.now) }
-    ensures table { IfOk result (IsTable (data_count sizes.now)) }
-    ensures acts { IfOk result (λ table. ActsOn sizes.now parties (λ d e. IsTrue (is_related table d e))) }
-    ensures covered { IfOk result (λ table. AllCovered sizes.now cases.now) }
-    ensures total { IfOk result (All (λ row. row ≢ [])) }
-    ensures uncovered { named_uncovered result ≡ first_uncovered sizes.now cases.now }
-    ensures err { IfErr result (HasTableFault sizes.now cases.now) }
+    ensures rows { IfOk result (λ made. IfSome made (λ rows. rows ≡ rows_of sizes.now cases.now)) }
+    ensures covered { IfOk result (λ made. IfSome made (λ _. AllCovered sizes.now cases.now)) }
+    ensures known { All (IsKnown sizes.now) known.new }
+    ensures offsets { All (HasOffsets sizes.now) offsets.new }
 {
-    let part = sizes.part(parties);
-    if let Ok(Some(rows)) = part_rows(alloc, &part, cases) {
-        return Ok(Table::widened(sizes, parties, part, rows));
-    }
-    match first_uncovered(sizes, cases) {
-        Some(d) => Err(TableFault::NotTotal(d)),
-        None => Err(TableFault::Memory),
-    }
-}
-
-/// The rows of the cases over the parties' values. `None` where no case covers some of these.
-fn part_rows(alloc: Global, part: &Sizes, cases: &[Case]) -> Result<Option<Rows>, Memory>
-    requires named { All (IsNamedBelow (length part.now)) cases.now }
-    requires once { All AssignsOnce cases.now }
-    requires fits { All (AssignsBelow part.now) cases.now }
-    ensures rows { IfOk result (λ made. IfSome made (λ rows. rows ≡ rows_of part.now cases.now)) }
-    ensures covered { IfOk result (λ made. IfSome made (λ _. AllCovered part.now cases.now)) }
-{
-    if keep_all(cases) {
-        return Ok(Some(Rows::identity(alloc, part.all())?));
-    }
-    let values = all_values(alloc, part)?;
-    let mut rows = Rows::empty(alloc, part.all())?;
-    let mut known = Seq::new(alloc);
+    let mut rows = Rows::empty(alloc, sizes.all())?;
     let mut applied = Seq::new(alloc);
     let mut covered = BitRow::none();
     for case in cases {
-        let those = those_covered(&mut known, part, values.as_slice(), case);
+        let those = those_covered(known, sizes, values, case);
         covered.add(&those);
         add_new(
             &mut rows,
             &mut applied,
-            part,
-            values.as_slice(),
+            offsets,
+            sizes,
+            values,
             case,
             &those,
         );
     }
-    if !has_all(part, &covered) {
+    if !has_all(sizes, &covered) {
         return Ok(None);
     }
     Ok(Some(rows))
 }
 
 /// Whether there is a case, and each covers all joint data and leaves them as they are.
-fn keep_all(cases: &[Case]) -> bool
+pub(crate) fn keep_all(cases: &[Case]) -> bool
     ensures { result ≡ keep_all cases.now }
 {
     !cases.is_empty() && each_keeps_all(cases)
@@ -133,6 +109,7 @@ fn keeps_all(case: &Case) -> bool
 fn add_new<'a>(
     rows: &mut Rows,
     applied: &mut Seq<Applied<'a>>,
+    offsets: &mut Seq<FreeOffsets>,
     sizes: &Sizes,
     values: &[[u16; 16]],
     case: &'a Case,
@@ -146,36 +123,47 @@ fn add_new<'a>(
     requires those { AreThose sizes.now (covers case.now) those.now.words }
     requires table { IsTable (data_count sizes.now) rows.old }
     requires applied { All (IsApplied sizes.now rows.old) applied.old }
+    requires offsets { All (HasOffsets sizes.now) offsets.old }
     ensures table { IsTable (data_count sizes.now) rows.new }
     ensures related { (d e : ℕ) → d < data_count sizes.now → e < data_count sizes.now →
         is_related rows.new d e ≡ (is_related rows.old d e || relates sizes.now (case.now ∷ []) d e) }
     ensures applied { All (IsApplied sizes.now rows.new) applied.new }
+    ensures offsets { All (HasOffsets sizes.now) offsets.new }
 {
     if those.is_within(&applied_to(applied.as_slice(), case)) {
         return;
     }
-    add_case(rows, sizes, values, case, those);
+    add_case(rows, offsets, sizes, values, case, those);
     keep_applied(applied, case, those);
 }
 
 /// Relates what the case relates too, in a table of the sizes' joint data, of which it covers those.
-fn add_case(rows: &mut Rows, sizes: &Sizes, values: &[[u16; 16]], case: &Case, those: &BitRow)
+fn add_case(
+    rows: &mut Rows,
+    offsets: &mut Seq<FreeOffsets>,
+    sizes: &Sizes,
+    values: &[[u16; 16]],
+    case: &Case,
+    those: &BitRow,
+)
     requires values { values.now ≡ map (tuple_of sizes.now) (range_with_len 0 (data_count sizes.now)) }
     requires named { IsNamedBelow (length sizes.now) case.now }
     requires once { AssignsOnce case.now }
     requires fits { AssignsBelow sizes.now case.now }
     requires those { AreThose sizes.now (covers case.now) those.now.words }
     requires table { IsTable (data_count sizes.now) rows.old }
+    requires offsets { All (HasOffsets sizes.now) offsets.old }
     ensures table { IsTable (data_count sizes.now) rows.new }
     ensures related { (d e : ℕ) → d < data_count sizes.now → e < data_count sizes.now →
         is_related rows.new d e ≡ (is_related rows.old d e || relates sizes.now (case.now ∷ []) d e) }
+    ensures offsets { All (HasOffsets sizes.now) offsets.new }
 {
     let all = sizes.all();
-    let offsets = offsets(sizes, values, free_agents(case));
+    let above = offsets_above(offsets, sizes, values, free_agents(case));
     for d in 0..all {
         if those.has(d) {
             let least = least_number(sizes, case, d, &values[d as usize]);
-            relate(rows, d, least, &offsets);
+            relate(rows, d, least, &above);
         }
     }
 }

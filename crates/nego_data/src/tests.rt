@@ -4,7 +4,7 @@ ghost use Rattle.nego_data.specs.Data.{data_count};
 ghost use Rattle.nego_data.specs.CaseForm.{FitsSize, AreAmong, NamesOnly, AssignsOnce, AssignsBelow, term_agents};
 
 use crate::cases::{Case, Operand, Set, Term, Test};
-use crate::{SizeFault, Sizes, Table, TableFault, table_of};
+use crate::{SizeFault, Sizes, Table, TableFault, TableMaker};
 use nego_base::{AgentId, AgentSet, Memory, Op, Seq};
 use std::alloc::Global;
 use std::process::Abort;
@@ -35,7 +35,7 @@ fn assigned(alloc: Global, term: Term) -> Result<Table, TableFault>
     let sizes = Sizes::new(&[4]).unwrap();
     let sets = [Set { agent: A, term }];
     let cases = [case_of(alloc, &[], &sets)?];
-    table_of(alloc, &sizes, AgentSet::none().with(A), &cases)
+    TableMaker::new(alloc, &sizes, AgentSet::none().with(A)).table(alloc, &cases)
 }
 
 /// What is answered of two agents of sizes 4 and 2, and the one case `a<3 : a:=b`.
@@ -52,7 +52,7 @@ fn partial(alloc: Global, sizes: &Sizes) -> Result<Table, TableFault>
         term: Term::Plus(B, 0),
     }];
     let cases = [case_of(alloc, &tests, &sets)?];
-    table_of(alloc, sizes, AgentSet::none().with(A).with(B), &cases)
+    TableMaker::new(alloc, sizes, AgentSet::none().with(A).with(B)).table(alloc, &cases)
 }
 
 /// Whether the table has just these pairs.
@@ -248,7 +248,7 @@ fn wide(alloc: Global, sizes: &Sizes) -> Result<Table, TableFault>
     ensures { IfOk result (λ table. length table ≡ data_count sizes.now) }
 {
     let cases = [spread(alloc)?, lowered(alloc)?, raised(alloc)?];
-    table_of(alloc, sizes, AgentSet::none().with(A).with(B), &cases)
+    TableMaker::new(alloc, sizes, AgentSet::none().with(A).with(B)).table(alloc, &cases)
 }
 
 /// Whether the table of so many joint data has the row that is expected.
@@ -329,21 +329,63 @@ fn counted(alloc: Global) -> Result<Case, Memory>
     case_of(alloc, &tests, &sets)
 }
 
-/// The table of three agents, of whom the first and the last are parties, of the two cases.
-fn narrow(alloc: Global, sizes: &Sizes) -> Result<Table, TableFault>
+/// The case `a>=1 : c:=*`.
+fn opened(alloc: Global) -> Result<Case, Memory>
+    ensures names { IfOk result (NamesOnly (0 ∷ 2 ∷ [])) }
+    ensures once { IfOk result AssignsOnce }
+    ensures fits { IfOk result (AssignsBelow (2 ∷ 3 ∷ 2 ∷ [])) }
+{
+    let tests = [Test {
+        agent: A,
+        op: Op::Ge,
+        right: Operand::Number(1),
+    }];
+    let sets = [Set {
+        agent: C,
+        term: Term::Any,
+    }];
+    case_of(alloc, &tests, &sets)
+}
+
+/// The maker of tables of three agents, of whom the first and the last are parties.
+fn outer_maker(alloc: Global, sizes: &Sizes) -> TableMaker
     requires { sizes.now ≡ 2 ∷ 3 ∷ 2 ∷ [] }
-    ensures { IfOk result (λ table. length table ≡ 12) }
+    ensures sizes { result.sizes ≡ 2 ∷ 3 ∷ 2 ∷ [] }
+    ensures parties { result.parties ≡ 0 ∷ 2 ∷ [] }
+{
+    TableMaker::new(alloc, sizes, AgentSet::none().with(A).with(C))
+}
+
+/// The table of the first two cases.
+fn narrow(alloc: Global, maker: &mut TableMaker) -> Result<Table, TableFault>
+    requires sizes { maker.old.sizes ≡ 2 ∷ 3 ∷ 2 ∷ [] }
+    requires parties { maker.old.parties ≡ 0 ∷ 2 ∷ [] }
+    ensures rows { IfOk result (λ table. length table ≡ 12) }
+    ensures same { maker.new ≡ maker.old }
 {
     let cases = [started(alloc)?, counted(alloc)?];
-    table_of(alloc, sizes, AgentSet::none().with(A).with(C), &cases)
+    maker.table(alloc, &cases)
+}
+
+/// The table of the last two cases.
+fn other(alloc: Global, maker: &mut TableMaker) -> Result<Table, TableFault>
+    requires sizes { maker.old.sizes ≡ 2 ∷ 3 ∷ 2 ∷ [] }
+    requires parties { maker.old.parties ≡ 0 ∷ 2 ∷ [] }
+    ensures rows { IfOk result (λ table. length table ≡ 12) }
+    ensures same { maker.new ≡ maker.old }
+{
+    let cases = [opened(alloc)?, started(alloc)?];
+    maker.table(alloc, &cases)
 }
 
 /// The answer where the second case is missing.
-fn unfinished(alloc: Global, sizes: &Sizes) -> Result<Table, TableFault>
-    requires { sizes.now ≡ 2 ∷ 3 ∷ 2 ∷ [] }
+fn unfinished(alloc: Global, maker: &mut TableMaker) -> Result<Table, TableFault>
+    requires sizes { maker.old.sizes ≡ 2 ∷ 3 ∷ 2 ∷ [] }
+    requires parties { maker.old.parties ≡ 0 ∷ 2 ∷ [] }
+    ensures same { maker.new ≡ maker.old }
 {
     let cases = [started(alloc)?];
-    table_of(alloc, sizes, AgentSet::none().with(A).with(C), &cases)
+    maker.table(alloc, &cases)
 }
 
 /// The table of three agents, of whom the second is the party, of twice the case `:`.
@@ -352,7 +394,7 @@ fn kept(alloc: Global, sizes: &Sizes) -> Result<Table, TableFault>
     ensures { IfOk result (λ table. length table ≡ 12) }
 {
     let cases = [case_of(alloc, &[], &[])?, case_of(alloc, &[], &[])?];
-    table_of(alloc, sizes, AgentSet::none().with(B), &cases)
+    TableMaker::new(alloc, sizes, AgentSet::none().with(B)).table(alloc, &cases)
 }
 
 /// What is related where the first and the last agent are parties, as pairs of values `(a, b, c)` numbered in order.
@@ -377,15 +419,48 @@ const NARROW: [(u16, u16); 18] = [
     (11, 10),
 ];
 
-/// Tables of fewer parties than agents.
+/// What is related by the other two cases there.
+const OTHER: [(u16, u16); 24] = [
+    (0, 6),
+    (0, 7),
+    (1, 6),
+    (1, 7),
+    (2, 8),
+    (2, 9),
+    (3, 8),
+    (3, 9),
+    (4, 10),
+    (4, 11),
+    (5, 10),
+    (5, 11),
+    (6, 6),
+    (6, 7),
+    (7, 6),
+    (7, 7),
+    (8, 8),
+    (8, 9),
+    (9, 8),
+    (9, 9),
+    (10, 10),
+    (10, 11),
+    (11, 10),
+    (11, 11),
+];
+
+/// Tables of fewer parties than agents, which one maker makes one after another.
 #[test]
 fn fewer_parties(rt: HostRuntime) -> Result<(), Fail> {
     let sizes = Sizes::new(&[2, 3, 2])?;
-    let table = narrow(rt.alloc(), &sizes)?;
+    let mut maker = outer_maker(rt.alloc(), &sizes);
+    let table = narrow(rt.alloc(), &mut maker)?;
     assert!(rt; has(&table, 12, &NARROW));
     assert!(rt; (table.count(4), table.nth(4, 1), table.nth(4, 2)) == (2, Some(11), None));
     assert!(rt; (table.count(9), table.nth(9, 0)) == (1, Some(8)));
-    assert!(rt; unfinished(rt.alloc(), &sizes).err() == Some(TableFault::NotTotal(6)));
+    assert!(rt; unfinished(rt.alloc(), &mut maker).err() == Some(TableFault::NotTotal(6)));
+    let second = other(rt.alloc(), &mut maker)?;
+    assert!(rt; has(&second, 12, &OTHER));
+    let again = narrow(rt.alloc(), &mut maker)?;
+    assert!(rt; has(&again, 12, &NARROW));
     let same = kept(rt.alloc(), &sizes)?;
     assert!(rt; (0..12).all(|d| (0..12).all(|e| same.related(d, e) == (d == e))));
     Ok(())

@@ -20,7 +20,7 @@ use crate::numbers::{AtomNumbers, NextNumbers, OutNumbers};
 use crate::sizing::sizes_of;
 use nego_base::{AgentId, AgentSet, AtomId, AtomSet, Memory, OutcomeId, Seq, Text};
 use nego_data::cases::Case;
-use nego_data::{Sizes, Table, TableFault, table_of};
+use nego_data::{Sizes, Table, TableFault, TableMaker};
 use nego_model::{AtomPart, Diagram, OutcomePart, Parts};
 use nego_reader::{PAtom, POut, Parsed};
 use std::alloc::Global;
@@ -146,16 +146,16 @@ fn add_outcomes(
     ensures total { OnOk result (not_total_among p.now (length outcomes.old) outs.now ≡ None) }
     ensures err { IfErr result (λ e. Tells e (not_total_among p.now (length outcomes.old) outs.now)) }
 {
+    let mut maker = TableMaker::new(alloc, sizes, numbers.parties);
     for (i, out) in outs.iter().enumerate() {
         let o = OutcomeId(outcomes.len() as u32);
         outcomes.push(outcome_part(
             alloc,
             p,
-            sizes,
+            &mut maker,
             n,
             o,
             out,
-            numbers.parties,
             &numbers.outs[i],
         )?)?;
     }
@@ -166,22 +166,22 @@ fn add_outcomes(
 fn outcome_part(
     alloc: Global,
     p: &Numbered,
-    sizes: &Sizes,
+    maker: &mut TableMaker,
     n: usize,
     o: OutcomeId,
     out: &POut,
-    parties: AgentSet,
     numbers: &OutNumbers,
 ) -> Result<OutcomePart, ShapeAnswer>
     requires shaped { IsFormed (content_of p.now) }
-    requires sizes { sizes.now ≡ sizes_in (content_of p.now) }
+    requires sizes { maker.old.sizes ≡ sizes_in (content_of p.now) }
+    requires parties { maker.old.parties ≡ parties_at (content_of p.now) n }
     requires atom { n < length p.now.atoms }
     requires out { Contains (all_outs (content_of p.now)) (placed_at n (out_content out.now)) }
-    requires parties { parties ≡ parties_at (content_of p.now) n }
     requires numbers { numbers.now ≡ out_numbers (content_of p.now) out.now }
     ensures part { IfOk result (λ part. plain_outcome (length p.now.agents) part ≡ outcome_in (content_of p.now) (placed_at n (out_content out.now))) }
     ensures total { IfOk result (λ _. not_total_at p.now o.0 out.now ≡ None) }
     ensures err { IfErr result (λ e. Tells e (not_total_at p.now o.0 out.now)) }
+    ensures maker { maker.new ≡ maker.old }
 {
     Ok(OutcomePart {
         name: Text::copy(alloc, out.name.text.as_slice())?,
@@ -190,11 +190,10 @@ fn outcome_part(
         table: table(
             alloc,
             p,
-            sizes,
+            maker,
             n,
             o,
             out,
-            parties,
             numbers.cases.as_slice(),
         )?,
     })
@@ -234,24 +233,24 @@ fn next_set(nexts: &[NextNumbers], a: AgentId) -> AtomSet
 fn table(
     alloc: Global,
     p: &Numbered,
-    sizes: &Sizes,
+    maker: &mut TableMaker,
     n: usize,
     o: OutcomeId,
     out: &POut,
-    parties: AgentSet,
     cases: &[Case],
 ) -> Result<Table, ShapeAnswer>
     requires shaped { IsFormed (content_of p.now) }
-    requires sizes { sizes.now ≡ sizes_in (content_of p.now) }
+    requires sizes { maker.old.sizes ≡ sizes_in (content_of p.now) }
+    requires parties { maker.old.parties ≡ parties_at (content_of p.now) n }
     requires atom { n < length p.now.atoms }
     requires out { Contains (all_outs (content_of p.now)) (placed_at n (out_content out.now)) }
-    requires parties { parties ≡ parties_at (content_of p.now) n }
     requires cases { cases.now ≡ map (λ case. case_in (content_of p.now) (case_content case)) out.now.cases }
     ensures rows { IfOk result (λ table. table ≡ rows_of (sizes_in (content_of p.now)) (cases_in (content_of p.now) (out_content out.now))) }
     ensures total { IfOk result (λ _. not_total_at p.now o.0 out.now ≡ None) }
     ensures err { IfErr result (λ e. Tells e (not_total_at p.now o.0 out.now)) }
+    ensures maker { maker.new ≡ maker.old }
 {
-    match table_of(alloc, sizes, parties, cases) {
+    match maker.table(alloc, cases) {
         Ok(table) => Ok(table),
         Err(TableFault::Memory) => Err(ShapeAnswer::Memory),
         Err(TableFault::NotTotal(d)) => Err(ShapeAnswer::Off(ShapeFault {

@@ -34,7 +34,7 @@ loop-d-preserved c =
           (relates_by_offsets sizes case free ok c.requires.fits c.free_agents.ensures d (least_values sizes case.sets (split sizes d)) below (omega (arith, length-least_values sizes case d below))
           (λ a l. at-least_values sizes case.sets (split sizes d) a l) e k)
           ∙ ap (λ n. list_any (λ o. n + o == e) (offsets_of sizes free)) (sym w.least_number-least.ensures.value)
-          ∙ sym (c.offsets-offsets.ensures w.least_number-least.result e) in
+          ∙ sym (c.offsets_above-above.ensures.above w.least_number-least.result e) in
           record {
             table = subst (IsTable (data_count sizes)) (sym w.rows-is) (subst (λ n. IsTable n w.relate.new.rows) c.loop-d.invariant.table.rows w.relate.ensures.table);
             related = related_data first c.loop-d.rows c.if-has.rows (data_count sizes) d (relates sizes (case ∷ [])) c.loop-d.invariant.related (λ a e h k.

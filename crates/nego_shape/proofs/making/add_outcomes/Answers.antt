@@ -1,19 +1,22 @@
-use Rattle.std.proofs.Common.{◌≡◌, ◌+◌, length, None, sym, ap, subst, ◌∙◌, arith, length-append}
-use Rattle.std.specs.List.{Contains}
+use Rattle.std.proofs.Common.{◌≡◌, ◌+◌, ◌<◌, length, None, sym, ap, subst, ◌∙◌, arith, length-append}
+use Rattle.std.specs.List.{All, Contains}
+use Rattle.std.proofs.lemmas.List.{length-map}
 use Rattle.std.proofs.lemmas.Result.{err_from_is_err_and}
+use Rattle.nego_data.specs.Makers.{MakerState}
 use Rattle.nego_model.specs.declared.parts.OutcomePart.{OutcomePart}
 use Rattle.nego_model.specs.Parts.{plain_outcome}
 use Rattle.nego_reader.specs.declared.parsed.POut.{POut}
 use Rattle.nego_reader.specs.Content.{content_of, out_content}
 use Rattle.nego_shape.specs.Answer.{Tells}
 use Rattle.nego_shape.specs.Faults.{not_total_at, not_total_among}
-use Rattle.nego_shape.specs.Naming.{all_outs, outcome_in}
+use Rattle.nego_shape.specs.Naming.{all_outs, outcome_in, parties_at}
 use Rattle.nego_shape.specs.Made.{placed_at, out_numbers}
 use Rattle.std.proofs.lemmas.Option.{get_or_from_slice_get}
 use Rattle.nego_shape.proofs.Gathering.{made_at}
 use Rattle.nego_shape.proofs.FirstLaws.{numbered_goes_on, numbered_done}
 use Rattle.nego_shape.proofs.PartsMade.{one_more_made}
 use Rattle.nego_shape.proofs.TotalLaws.{told_numbered}
+use Rattle.nego_shape.proofs.Places.{parties_at-below}
 use Rattle.nego_shape.proofs.making.add_outcomes.Goals as goal
 
 pub outcome_part-requires-clause-out : goal.outcome_part-requires-clause-out
@@ -43,6 +46,8 @@ loop-i-preserved c =
       parts = one_more_made (plain_outcome (length p.agents)) (λ (out : POut). outcome_in (content_of p) (placed_at c.args.n (out_content out))) c.args.outcomes.now c.loop-i.outcomes c.push.new.self c.args.outs.now i _ c.index-outs-i.result
           c.loop-i-test.true c.index-outs-i.is c.in_ok-outcome_part.ensures.part put c.loop-i.invariant.parts;
       count = omega (arith, long, before, length-append {A = OutcomePart});
+      sizes = ap (λ (m : MakerState). m.sizes) c.outcome_part.ensures.maker ∙ c.loop-i.invariant.sizes;
+      parties = ap (λ (m : MakerState). m.parties) c.outcome_part.ensures.maker ∙ c.loop-i.invariant.parties;
       total = numbered_goes_on (λ k out. not_total_at p (base + k) out) c.args.outs.now i i c.index-outs-i.result (not_total_among p base c.args.outs.now) c.loop-i-test.true c.index-outs-i.is
           (subst (λ o. not_total_at p o c.index-outs-i.result ≡ None) (c.len.ensures ∙ before) c.in_ok-outcome_part.ensures.total) c.loop-i.invariant.total;
     }
@@ -57,3 +62,9 @@ returns-clause-total c =
 pub outcome_part-requires-clause-numbers : goal.outcome_part-requires-clause-numbers
 outcome_part-requires-clause-numbers c =
     made_at (out_numbers (content_of c.args.p.now)) c.args.outs.now c.args.numbers.now.outs c.loop-i.i c.index-outs-i.result c.index.result.now c.requires.numbers c.loop-i-test.true c.index-outs-i.is (sym (get_or_from_slice_get c.args.numbers.now.outs c.loop-i.i c.index.result.now c.index.result.now c.index.ensures))
+
+pub new-maker-requires : goal.new-maker-requires
+new-maker-requires c =
+    let c0 = content_of c.args.p.now in
+    let count : length c.args.sizes.now ≡ length c0.agents = ap length c.requires.sizes ∙ length-map c0.agents (λ agent. agent.size) in
+    subst (All (λ a. a < length c.args.sizes.now)) (sym c.requires.parties) (subst (λ n. All (λ a. a < n) (parties_at c0 c.args.n)) (sym count) (parties_at-below c0 c.args.n))

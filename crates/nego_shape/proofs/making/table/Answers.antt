@@ -1,7 +1,6 @@
 use Rattle.std.proofs.Common.{◌≡◌, ◌<◌, List, length, map, Some, None, sym, ap, subst, ◌∙◌}
 use Rattle.std.specs.List.{All}
 use Rattle.std.specs.Option.{option_map}
-use Rattle.std.proofs.lemmas.List.{length-map}
 use Rattle.std.proofs.lemmas.List.Elements.{All-contains}
 use Rattle.nego_data.specs.declared.cases.Case.{Case}
 use Rattle.nego_data.specs.Cases.{rows_of}
@@ -13,28 +12,21 @@ use Rattle.nego_shape.specs.Naming.{PlacedOut, agent_names, sizes_in, all_outs, 
 use Rattle.nego_shape.specs.Shaped.{IsDeclared, IsNamedParty, AreDifferent, case_names, assigned_names}
 use Rattle.nego_shape.specs.Made.{placed_at}
 use Rattle.nego_shape.proofs.ShapedCases.{cases_in-named, cases_in-once}
-use Rattle.nego_shape.proofs.Places.{parties_at-below}
 use Rattle.nego_shape.proofs.PartsMade.{cases_read}
 use Rattle.nego_shape.proofs.SoundShape.{first_is}
 use Rattle.nego_data.proofs.Uncovered.{covered-none}
 use Rattle.nego_shape.proofs.making.table.Goals as goal
 
-pub table_of-requires-clause-parties : goal.table_of-requires-clause-parties
-table_of-requires-clause-parties c =
-    let c0 = content_of c.args.p.now in
-    let count : length c.args.sizes.now ≡ length c0.agents = ap length c.requires.sizes ∙ length-map c0.agents (λ agent. agent.size) in
-    subst (All (λ a. a < length c.args.sizes.now)) (sym c.requires.parties) (subst (λ n. All (λ a. a < n) (parties_at c0 c.args.n)) (sym count) (parties_at-below c0 c.args.n))
-
-pub table_of-requires-clause-named : goal.table_of-requires-clause-named
-table_of-requires-clause-named c =
+pub table-requires-clause-named : goal.table-requires-clause-named
+table-requires-clause-named c =
     let c0 = content_of c.args.p.now in
     let cases : c.args.cases.now ≡ cases_in c0 (out_content c.args.out.now) =
     c.requires.cases ∙ cases_read c0 c.args.out.now.cases in
     subst (λ ps. All (NamesOnly ps) c.args.cases.now) (sym c.requires.parties) (subst (λ (cs : List Case). All (NamesOnly (parties_at c0 c.args.n)) cs) (sym cases)
     (cases_in-named c0 (parties_at c0 c.args.n) (map case_content c.args.out.now.cases) (All-contains (λ (placed : PlacedOut). All (λ case. All (IsNamedParty c0 placed.atom) (case_names case)) placed.out.cases) (all_outs c0) (placed_at c.args.n (out_content c.args.out.now)) c.requires.shaped.parties_alone c.requires.out)))
 
-pub table_of-requires-clause-once : goal.table_of-requires-clause-once
-table_of-requires-clause-once c =
+pub table-requires-clause-once : goal.table-requires-clause-once
+table-requires-clause-once c =
     let c0 = content_of c.args.p.now in
     let cases : c.args.cases.now ≡ cases_in c0 (out_content c.args.out.now) =
     c.requires.cases ∙ cases_read c0 c.args.out.now.cases in
@@ -43,8 +35,8 @@ table_of-requires-clause-once c =
     (All-contains (λ (placed : PlacedOut). All (λ case. All (IsDeclared (agent_names c0)) (case_names case)) placed.out.cases) (all_outs c0) (placed_at c.args.n (out_content c.args.out.now)) c.requires.shaped.declared.cases c.requires.out)
     (All-contains (λ (placed : PlacedOut). All (λ case. AreDifferent (assigned_names case)) placed.out.cases) (all_outs c0) (placed_at c.args.n (out_content c.args.out.now)) c.requires.shaped.named_once.assigned c.requires.out))
 
-pub table_of-requires-clause-fits : goal.table_of-requires-clause-fits
-table_of-requires-clause-fits c =
+pub table-requires-clause-fits : goal.table-requires-clause-fits
+table-requires-clause-fits c =
     let c0 = content_of c.args.p.now in
     let cases : c.args.cases.now ≡ cases_in c0 (out_content c.args.out.now) =
     c.requires.cases ∙ cases_read c0 c.args.out.now.cases in
@@ -57,7 +49,7 @@ returns-in-Ok-clause-rows c =
     let cases : c.args.cases.now ≡ cases_in c0 (out_content c.args.out.now) =
     c.requires.cases ∙ cases_read c0 c.args.out.now.cases in
     subst (λ sizes. c.in-Ok.table ≡ rows_of sizes (cases_in c0 (out_content c.args.out.now))) c.requires.sizes
-    (subst (λ (cs : List Case). c.in-Ok.table ≡ rows_of c.args.sizes.now cs) cases c.in-Ok.ensures.rows)
+    (subst (λ (cs : List Case). c.in-Ok.table ≡ rows_of c.args.maker.now.sizes cs) cases c.in-Ok.ensures.rows)
 
 pub returns-in-Ok-clause-total : goal.returns-in-Ok-clause-total
 returns-in-Ok-clause-total c =
@@ -65,7 +57,7 @@ returns-in-Ok-clause-total c =
     let cases : c.args.cases.now ≡ cases_in c0 (out_content c.args.out.now) =
     c.requires.cases ∙ cases_read c0 c.args.out.now.cases in
     ap (option_map (λ d. fault_on c.args.out.now.name.line (kinds.NotTotal c.args.o d)))
-    (subst (λ (cs : List Case). first_uncovered (sizes_in c0) cs ≡ None) cases (subst (λ sizes. first_uncovered sizes c.args.cases.now ≡ None) c.requires.sizes (covered-none c.args.sizes.now c.args.cases.now c.in-Ok.ensures.covered)))
+    (subst (λ (cs : List Case). first_uncovered (sizes_in c0) cs ≡ None) cases (subst (λ sizes. first_uncovered sizes c.args.cases.now ≡ None) c.requires.sizes (covered-none c.args.maker.now.sizes c.args.cases.now c.in-Ok.ensures.covered)))
 
 pub returns-in-Err-NotTotal-clause-err : goal.returns-in-Err-NotTotal-clause-err
 returns-in-Err-NotTotal-clause-err c =
@@ -73,7 +65,7 @@ returns-in-Err-NotTotal-clause-err c =
     let cases : c.args.cases.now ≡ cases_in c0 (out_content c.args.out.now) =
     c.requires.cases ∙ cases_read c0 c.args.out.now.cases in
     let d = c.in-Err-NotTotal.d in
-    let fault : IsFirstUncovered c.args.sizes.now c.args.cases.now d =
-    subst (HasTableFault c.args.sizes.now c.args.cases.now) c.in-Err-NotTotal.field-0-is c.in-Err-NotTotal.ensures.err in
+    let fault : IsFirstUncovered c.args.maker.now.sizes c.args.cases.now d =
+    subst (HasTableFault c.args.maker.now.sizes c.args.cases.now) c.in-Err-NotTotal.field-0-is c.in-Err-NotTotal.ensures.err in
     ap (option_map (λ e. fault_on c.args.out.now.name.line (kinds.NotTotal c.args.o e)))
-    (subst (λ (cs : List Case). first_uncovered (sizes_in c0) cs ≡ Some d) cases (subst (λ sizes. first_uncovered sizes c.args.cases.now ≡ Some d) c.requires.sizes (first_is c.args.sizes.now c.args.cases.now d fault)))
+    (subst (λ (cs : List Case). first_uncovered (sizes_in c0) cs ≡ Some d) cases (subst (λ sizes. first_uncovered sizes c.args.cases.now ≡ Some d) c.requires.sizes (first_is c.args.maker.now.sizes c.args.cases.now d fault)))
