@@ -19,7 +19,7 @@ use Rattle.nego_data.specs.BitRows.{is_set}
 use Rattle.nego_data.specs.Cases.{agents_follow, covers, relates}
 use Rattle.nego_data.specs.Data.{data_count, split}
 use Rattle.nego_data.specs.Sizes.{tuple_of}
-use Rattle.nego_data.specs.Covered.{AreThose}
+use Rattle.nego_data.specs.Covered.{AreThose, AreAmongThose}
 use Rattle.nego_data.specs.Tables.{is_related}
 use Rattle.nego_data.proofs.Additions.{tuple_covers}
 
@@ -90,10 +90,10 @@ All-set P xs i x all here k d l = elim (cases_eq k i) [
     below : k < length xs
     below = subst (λ n. k < n) (length-set xs i x) l
 
-module _ (sizes : List ℕ) (case : Case) (those : List ℕ) (covered : AreThose sizes (covers case) those) where
+module _ (sizes : List ℕ) (case : Case) where
   -- what a case relates: to joint data that it covers those that follow its assignments
-  case_parts : (d e : ℕ) → d < data_count sizes → relates sizes (case ∷ []) d e ≡ true → (is_set those d ≡ true) × (agents_follow 0 sizes case.sets (split sizes d) (split sizes e) ≡ true)
-  case_parts d e h r = (covered d h ∙ tuple_covers sizes case d (tuple_of sizes d) refl ∙ parts.0, parts.1)
+  case_parts : (d e : ℕ) → relates sizes (case ∷ []) d e ≡ true → (covers case (tuple_of sizes d) ≡ true) × (agents_follow 0 sizes case.sets (split sizes d) (split sizes e) ≡ true)
+  case_parts d e r = (tuple_covers sizes case d (tuple_of sizes d) refl ∙ parts.0, parts.1)
     where
       only : (s t c f : Bool) → (s && (t && ((c && f) || false))) ≡ true → (c ≡ true) × (f ≡ true)
       only true true true true p = (refl, refl)
@@ -105,6 +105,30 @@ module _ (sizes : List ℕ) (case : Case) (those : List ℕ) (covered : AreThose
       parts : (covers case (split sizes d) ≡ true) × (agents_follow 0 sizes case.sets (split sizes d) (split sizes e) ≡ true)
       parts = only (nat_lt d (data_count sizes)) (nat_lt e (data_count sizes)) (covers case (split sizes d)) (agents_follow 0 sizes case.sets (split sizes d) (split sizes e)) r
 
+  or_none : (b : Bool) → (b || false) ≡ b
+  or_none true = refl
+  or_none false = refl
+
+  module _ (done : List ℕ) (within : AreAmongThose sizes (covers case) done) where
+    -- a case whose assignments were applied to all that it covers relates nothing new
+    pub nothing_new : (table : List (List ℕ)) → IsAppliedTo sizes table case.sets done →
+        (d e : ℕ) → d < data_count sizes → e < data_count sizes → is_related table d e ≡ (is_related table d e || relates sizes (case ∷ []) d e)
+    nothing_new table applied d e h k = elim (cases_Bool (relates sizes (case ∷ []) d e)) [
+      | inl r ↦
+          let p = case_parts d e r in
+          let there = applied d e h k (within d h p.0) p.1 in
+          there ∙ sym (or_left (is_related table d e) (relates sizes (case ∷ []) d e) there)
+      | inr r ↦ sym (ap (λ b. is_related table d e || b) r ∙ or_none (is_related table d e))
+    ]
+
+    -- and it covers nothing new, where all those were covered
+    pub nothing_more : (covered : List ℕ) (d : ℕ) → d < data_count sizes → (is_set done d ≡ true → is_set covered d ≡ true) → is_set covered d ≡ (is_set covered d || covers case (tuple_of sizes d))
+    nothing_more covered d h was = elim (cases_Bool (covers case (tuple_of sizes d))) [
+      | inl c ↦ let there = was (within d h c) in there ∙ sym (or_left (is_set covered d) (covers case (tuple_of sizes d)) there)
+      | inr c ↦ sym (ap (λ b. is_set covered d || b) c ∙ or_none (is_set covered d))
+    ]
+
+module _ (sizes : List ℕ) (case : Case) (those : List ℕ) (covered : AreThose sizes (covers case) those) where
   case_from : (d e : ℕ) → d < data_count sizes → e < data_count sizes → is_set those d ≡ true → agents_follow 0 sizes case.sets (split sizes d) (split sizes e) ≡ true → relates sizes (case ∷ []) d e ≡ true
   case_from d e h k m follows =
       all (nat_lt d (data_count sizes)) (nat_lt e (data_count sizes)) (covers case (split sizes d)) (agents_follow 0 sizes case.sets (split sizes d) (split sizes e))
@@ -112,21 +136,6 @@ module _ (sizes : List ℕ) (case : Case) (those : List ℕ) (covered : AreThose
     where
       all : (s t c f : Bool) → s ≡ true → t ≡ true → c ≡ true → f ≡ true → (s && (t && ((c && f) || false))) ≡ true
       all s t c f p q r g = rw (p, q, r, g) refl
-
-  -- a case whose assignments were applied to all that it covers relates nothing new
-  pub nothing_new : (table : List (List ℕ)) (done : List ℕ) → data_count sizes ≤ 1024 → ((e : ℕ) → e < 1024 → is_set those e ≡ true → is_set done e ≡ true) →
-      IsAppliedTo sizes table case.sets done → (d e : ℕ) → d < data_count sizes → e < data_count sizes → is_related table d e ≡ (is_related table d e || relates sizes (case ∷ []) d e)
-  nothing_new table done few within applied d e h k = elim (cases_Bool (relates sizes (case ∷ []) d e)) [
-    | inl r ↦
-        let p = case_parts d e h r in
-        let there = applied d e h k (within d (omega (arith, h, few)) p.0) p.1 in
-        there ∙ sym (or_left (is_related table d e) (relates sizes (case ∷ []) d e) there)
-    | inr r ↦ sym (ap (λ b. is_related table d e || b) r ∙ or_none (is_related table d e))
-  ]
-    where
-      or_none : (b : Bool) → (b || false) ≡ b
-      or_none true = refl
-      or_none false = refl
 
   module _ (old new : List (List ℕ)) (more : (d e : ℕ) → d < data_count sizes → e < data_count sizes → is_related new d e ≡ (is_related old d e || relates sizes (case ∷ []) d e)) where
     -- what was applied is so once a case is added

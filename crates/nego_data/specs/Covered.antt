@@ -1,5 +1,5 @@
 -- Sets of joint data that are told by their values.
-use Rattle.std.specs.Prelude.{◌≡◌, ℕ, ◌<◌, ◌==◌, Bool, not, ◌&&◌, List, length}
+use Rattle.std.specs.Prelude.{◌≡◌, ℕ, ◌<◌, ◌==◌, Bool, true, not, ◌&&◌, List, length}
 use Rattle.std.specs.List.{list_all}
 use Rattle.nego_data.specs.declared.cases.Case.{Case}
 use Rattle.nego_data.specs.declared.covered.Known.{Known}
@@ -11,6 +11,10 @@ use Rattle.nego_data.specs.Sizes.{tuple_of}
 -- The set has just those joint data whose values pass the test.
 abbrev pub AreThose : List ℕ → (List ℕ → Bool) → List ℕ → Type 0
 AreThose sizes test set = (d : ℕ) → d < data_count sizes → is_set set d ≡ test (tuple_of sizes d)
+
+-- The joint data whose values pass the test are all in the set.
+abbrev pub AreAmongThose : List ℕ → (List ℕ → Bool) → List ℕ → Type 0
+AreAmongThose sizes test set = (d : ℕ) → d < data_count sizes → test (tuple_of sizes d) ≡ true → is_set set d ≡ true
 
 -- What is known of a comparison is so.
 abbrev pub IsKnown : List ℕ → Known → Type 0

@@ -8,7 +8,7 @@ use crate::cases::Case;
 use nego_base::Seq;
 
 /// Of how many lists of assignments it is kept to what they were applied.
-const MOST_APPLIED: usize = 64;
+const MOST_APPLIED: usize = 128;
 
 /// A case, and joint data to which its assignments were applied, by it or by another case that has them too.
 #[derive(Clone, Copy, Debug)]

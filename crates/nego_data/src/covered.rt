@@ -1,12 +1,12 @@
 //! Of which joint data comparisons hold, and which joint data cases cover, as sets.
-ghost use Rattle.std.specs.Prelude.{◌≡◌, ◌≤◌, ℕ, List, map, All, IfSome};
+ghost use Rattle.std.specs.Prelude.{◌≡◌, ◌≤◌, ℕ, List, map, All, IfSome, MatchOption};
 ghost use Rattle.std.specs.List.{list_all, range_with_len};
 ghost use Rattle.nego_data.specs.Data.{data_count};
 ghost use Rattle.nego_data.specs.BitRows.{is_set};
 ghost use Rattle.nego_data.specs.Sizes.{tuple_of};
 ghost use Rattle.nego_data.specs.Cases.{covers, test_holds};
 ghost use Rattle.nego_data.specs.CaseForm.{TestBelow};
-ghost use Rattle.nego_data.specs.Covered.{AreThose, IsKnown};
+ghost use Rattle.nego_data.specs.Covered.{AreThose, AreAmongThose, IsKnown};
 
 use crate::Sizes;
 use crate::bit_row::BitRow;
@@ -76,25 +76,33 @@ pub(crate) fn forget_known(known: &mut Seq<Known>)
     }
 }
 
-/// The joint data that the case covers: those of which all its comparisons hold.
-pub(crate) fn those_covered(
+/// The joint data that the case covers, of which all its comparisons hold; `None` where all of these are among the old
+/// ones, which may show before all comparisons are evaluated.
+pub(crate) fn newly_covered(
     known: &mut Seq<Known>,
     sizes: &Sizes,
     values: &[[u16; 16]],
     case: &Case,
-) -> BitRow
+    old: &BitRow,
+) -> Option<BitRow>
     requires few { data_count sizes.now ≤ 1024 }
     requires values { values.now ≡ map (tuple_of sizes.now) (range_with_len 0 (data_count sizes.now)) }
     requires agents { All (TestBelow 16) case.now.tests }
     requires known { All (IsKnown sizes.now) known.old }
-    ensures covered { AreThose sizes.now (covers case.now) result.words }
+    ensures covered { MatchOption result (AreAmongThose sizes.now (covers case.now) old.now.words) (λ set. AreThose sizes.now (covers case.now) set.words) }
     ensures known { All (IsKnown sizes.now) known.new }
 {
     let mut covered = BitRow::all();
     for test in case.tests.iter() {
+        if covered.is_within(old) {
+            return None;
+        }
         covered.keep(&those_of(known, sizes, values, test));
     }
-    covered
+    if covered.is_within(old) {
+        return None;
+    }
+    Some(covered)
 }
 
 /// Whether all joint data are in the set.

@@ -1,9 +1,10 @@
 //! The rows of an outcome's cases.
 ghost use Rattle.std.specs.Prelude.{◌≡◌, ◌≢◌, ℕ, ◌<◌, ◌≤◌, ◌&&◌, ◌||◌, ◌==◌, [], ◌∷◌, length, map, All, IsTrue, IfOk, IfErr, IfSome};
+ghost use Rattle.nego_data.specs.BitRows.{is_set};
 ghost use Rattle.nego_data.specs.Data.{data_count};
 ghost use Rattle.nego_data.specs.Tables.{IsTable, is_related};
 ghost use Rattle.nego_data.specs.Cases.{covers, relates, rows_of};
-ghost use Rattle.nego_data.specs.CaseForm.{AssignsOnce, AssignsBelow, IsNamedBelow, AllCovered};
+ghost use Rattle.nego_data.specs.CaseForm.{AssignsOnce, AssignsBelow, IsNamedBelow, AllCovered, TestBelow};
 ghost use Rattle.std.specs.List.{list_all, range_with_len};
 ghost use Rattle.nego_data.specs.Given.{is_above};
 ghost use Rattle.nego_data.specs.Sizes.{tuple_of};
@@ -16,7 +17,7 @@ use crate::Sizes;
 use crate::applied::{Applied, applied_to, keep_applied};
 use crate::bit_row::BitRow;
 use crate::cases::Case;
-use crate::covered::{Known, has_all, those_covered};
+use crate::covered::{Known, has_all, newly_covered};
 use crate::giving::{FreeOffsets, free_agents, least_number, offsets_above};
 use crate::rows::Rows;
 use nego_base::{Memory, Seq};
@@ -67,16 +68,15 @@ pub(crate) fn rows_of_cases(
     let mut applied = Seq::new(alloc);
     let mut covered = BitRow::none();
     for case in cases {
-        let those = those_covered(known, sizes, values, case);
-        covered.add(&those);
         add_new(
             &mut rows,
+            &mut covered,
             &mut applied,
+            known,
             offsets,
             sizes,
             values,
             case,
-            &those,
         );
     }
     if !has_all(sizes, &covered) {
@@ -105,36 +105,44 @@ fn keeps_all(case: &Case) -> bool
     case.tests.is_empty() && case.sets.is_empty()
 }
 
-/// Relates what the case relates too, as `add_case` does, where its assignments weren't applied to all those before.
+/// Relates and covers what the case does too. It isn't evaluated to the end where its assignments were applied to all that
+/// it covers.
 fn add_new<'a>(
     rows: &mut Rows,
+    covered: &mut BitRow,
     applied: &mut Seq<Applied<'a>>,
+    known: &mut Seq<Known>,
     offsets: &mut Seq<FreeOffsets>,
     sizes: &Sizes,
     values: &[[u16; 16]],
     case: &'a Case,
-    those: &BitRow,
 )
     requires few { data_count sizes.now ≤ 1024 }
     requires values { values.now ≡ map (tuple_of sizes.now) (range_with_len 0 (data_count sizes.now)) }
+    requires tests { All (TestBelow 16) case.now.tests }
     requires named { IsNamedBelow (length sizes.now) case.now }
     requires once { AssignsOnce case.now }
     requires fits { AssignsBelow sizes.now case.now }
-    requires those { AreThose sizes.now (covers case.now) those.now.words }
     requires table { IsTable (data_count sizes.now) rows.old }
     requires applied { All (IsApplied sizes.now rows.old) applied.old }
+    requires known { All (IsKnown sizes.now) known.old }
     requires offsets { All (HasOffsets sizes.now) offsets.old }
     ensures table { IsTable (data_count sizes.now) rows.new }
     ensures related { (d e : ℕ) → d < data_count sizes.now → e < data_count sizes.now →
         is_related rows.new d e ≡ (is_related rows.old d e || relates sizes.now (case.now ∷ []) d e) }
+    ensures covered { (d : ℕ) → d < data_count sizes.now → is_set covered.new.words d ≡ (is_set covered.old.words d || covers case.now (tuple_of sizes.now d)) }
     ensures applied { All (IsApplied sizes.now rows.new) applied.new }
+    ensures known { All (IsKnown sizes.now) known.new }
     ensures offsets { All (HasOffsets sizes.now) offsets.new }
 {
-    if those.is_within(&applied_to(applied.as_slice(), case)) {
+    let mut done = applied_to(applied.as_slice(), case);
+    done.keep(covered);
+    let Some(those) = newly_covered(known, sizes, values, case, &done) else {
         return;
-    }
-    add_case(rows, offsets, sizes, values, case, those);
-    keep_applied(applied, case, those);
+    };
+    covered.add(&those);
+    add_case(rows, offsets, sizes, values, case, &those);
+    keep_applied(applied, case, &those);
 }
 
 /// Relates what the case relates too, in a table of the sizes' joint data, of which it covers those.

@@ -14,8 +14,8 @@ use Rattle.nego_data.proofs.making.rows_of_cases.Goals as goal
 pub add_new-requires-clause-named : goal.add_new-requires-clause-named
 add_new-requires-clause-named c = subst (IsNamedBelow (length c.args.sizes.now)) (sym c.case-item.is) (c.requires.named c.loop-case.case-index c.case-item.result c.loop-case-test.true)
 
-pub those_covered-those-requires-clause-agents : goal.those_covered-those-requires-clause-agents
-those_covered-those-requires-clause-agents c =
+pub add_new-requires-clause-tests : goal.add_new-requires-clause-tests
+add_new-requires-clause-tests c =
     (named_below_more (length c.args.sizes.now) 16 c.case-item.result c.all.ensures.sizes.few_agents
     (subst (IsNamedBelow (length c.args.sizes.now)) (sym c.case-item.is) (c.requires.named c.loop-case.case-index c.case-item.result c.loop-case-test.true))).tests
 
@@ -33,10 +33,10 @@ loop-case-preserved c =
           ∙ ap (λ b. b || relates sizes (case ∷ []) d e) (before.related d e h k)
           ∙ sym (relates_more sizes cases i d e case c.loop-case-test.true c.case-item.is);
       covered = λ d h.
-          c.add.ensures d (omega (arith, h, c.all.ensures.sizes.together))
-          ∙ ap₂ ◌||◌ (before.covered d h) (c.those_covered-those.ensures.covered d h)
+          c.add_new.ensures.covered d h
+          ∙ ap (λ b. b || covers case (tuple_of sizes d)) (before.covered d h)
           ∙ sym (covers_more (tuple_of sizes d) cases i case c.loop-case-test.true c.case-item.is);
-      known = c.those_covered-those.ensures.known;
+      known = c.add_new.ensures.known;
       applied = c.add_new.ensures.applied;
       offsets = c.add_new.ensures.offsets;
     }

@@ -2,7 +2,7 @@ use Rattle.std.proofs.Common.{take}
 use Rattle.std.specs.List.{All, list_all}
 use Rattle.nego_data.specs.Cases.{test_holds}
 use Rattle.nego_data.specs.Covered.{AreThose, IsKnown}
-use Rattle.nego_data.proofs.covered.those_covered.Given as goal
+use Rattle.nego_data.proofs.covered.newly_covered.Given as goal
 
 -- those of which the comparisons so far hold
 abbrev pub invariant-loop-test : goal.invariant-loop-test
