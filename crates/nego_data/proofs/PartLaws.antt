@@ -1,6 +1,6 @@
 -- Laws of the parties' part of joint data: of its sizes, its values, and what cases that name parties alone relate.
 use Rattle.std.proofs.Common.{◌≡◌, ⊎_elim, ℕ, zero, suc, ◌+◌, ◌<◌, ◌≤◌, ◌&&◌, ◌||◌, ◌==◌, nat_lt, Bool, true, false, List, [], ◌∷◌, length, take, slice_index, slice_index_or, get_or, Option, Some, None, IsTrue, refl, sym, subst, ap, ap₂, ◌∙◌, arith, eqb-true, eq-eqb, lt-ltb}
-use Rattle.std.specs.Prelude.{nat_eq, replicate, ◌++◌, ◌-◌, if◌then◌else◌, Result, Ok, Err, IsOk}
+use Rattle.std.specs.Prelude.{nat_eq, replicate, ◌++◌, ◌-◌, if◌then◌else◌, not, find, Result, Ok, Err, IsOk}
 use Rattle.std.specs.Result.{result_err}
 use Rattle.std.proofs.lemmas.Option.{none-some}
 use Rattle.std.specs.List.{All, list_any, range_with_len}
@@ -19,7 +19,9 @@ use Rattle.nego_data.specs.declared.cases.Term.{Term}
 use Rattle.nego_data.specs.Data.{data_count, split, joint}
 use Rattle.nego_data.specs.Sizes.{AreSizes, AreBelow, tuple_of}
 use Rattle.nego_data.specs.Cases.{term_for, covers, agent_follows, agents_follow, case_relates, relates, rows_of}
-use Rattle.nego_data.specs.CaseForm.{NamesOnly, AreAmong, AssignsBelow, AllCovered, FitsSize, term_agents}
+use Rattle.nego_data.specs.CaseForm.{NamesOnly, AreAmong, AssignsBelow, AllCovered, FitsSize, first_uncovered, term_agents}
+use Rattle.nego_data.specs.BitRows.{is_set}
+use Rattle.nego_data.specs.Covered.{AreThose}
 use Rattle.nego_data.specs.Parts.{part_from, part_sizes, part_values, part_number, are_kept, widened, IsPart}
 use Rattle.nego_data.specs.Tables.{IsTable, is_related, rows_by}
 use Rattle.nego_data.proofs.Counts.{front-values, joint-front, joint-in_range}
@@ -29,6 +31,7 @@ use Rattle.nego_data.proofs.Assigned.{follow-at, follow_from, term_for-some}
 use Rattle.nego_data.proofs.CaseRelations.{SameAt, covers-same, gives-same, term_for-stranger, case_relates-changes}
 use Rattle.nego_data.proofs.Tables.{same_tables, length-rows_by, rows_by-table, rows_by-related, rows_of-relates}
 use Rattle.nego_data.proofs.Additions.{table_of_cases}
+use Rattle.nego_data.proofs.Uncovered.{tuple_covered, find-alike_within}
 
 -- what succeeds where it answers no error
 pub ok_from_none : {T E : Type 0} (r : Result T E) → result_err r ≡ None → IsOk r
@@ -294,6 +297,17 @@ module _ (parties sizes : List ℕ) (ok : AreSizes sizes) where
         inside : (s t u : Bool) → s ≡ true → t ≡ true → (s && (t && u)) ≡ u
         inside s t u p q = rw (p, q) refl
 
+-- the number of the parties' values in joint data, by sizes that are theirs
+module _ (parties sizes part : List ℕ) (ok : AreSizes sizes) (part_is : part ≡ part_sizes parties sizes) (d : ℕ) (values : List ℕ) (is : values ≡ tuple_of sizes d) where
+  pub part-fits : d < data_count sizes → AreBelow part (part_values parties values)
+  part-fits h =
+      subst (λ p. AreBelow p (part_values parties values)) (sym part_is)
+      (subst (λ v. AreBelow (part_sizes parties sizes) (part_values parties v)) (sym is) (tuple-below parties sizes ok d h))
+
+  pub part-numbered : (n : ℕ) → n ≡ joint part (part_values parties values) → n ≡ part_number parties sizes d
+  unfolding part_number
+  part-numbered n f = f ∙ ap (λ p. joint p (part_values parties values)) part_is ∙ ap (λ v. joint (part_sizes parties sizes) (part_values parties v)) is
+
 -- ---- the table
 
 -- the table of the cases is that of their rows over the parties' values
@@ -314,6 +328,31 @@ covered-from_part parties sizes cases ok names covered d h =
     (covered (part_number parties sizes d) (number-below parties sizes ok d h))
     (All-weaker (NamesOnly parties) (λ case. IsTrue (covers case (split (part_sizes parties sizes) (part_number parties sizes d))) → IsTrue (covers case (split sizes d)))
     (λ case one. covers-same parties case (split (part_sizes parties sizes) (part_number parties sizes d)) (split sizes d) one (λ a m. sym (same-part parties sizes ok d h a m))) cases names)
+
+-- a case covers the parties' values in joint data where it covers these
+covers-part : (parties sizes : List ℕ) → AreSizes sizes → (case : Case) → NamesOnly parties case → (d : ℕ) → d < data_count sizes →
+    covers case (split (part_sizes parties sizes) (part_number parties sizes d)) ≡ covers case (split sizes d)
+covers-part parties sizes ok case one d h = same_tests (covers case (split (part_sizes parties sizes) (part_number parties sizes d))) (covers case (split sizes d))
+    (λ c. covers-same parties case (split (part_sizes parties sizes) (part_number parties sizes d)) (split sizes d) one (λ a m. sym (same-part parties sizes ok d h a m)) c)
+    (λ c. covers-same parties case (split sizes d) (split (part_sizes parties sizes) (part_number parties sizes d)) one (same-part parties sizes ok d h) c)
+
+-- and so do cases
+some-covers_part : (parties sizes : List ℕ) → AreSizes sizes → (cases : List Case) → All (NamesOnly parties) cases → (d : ℕ) → d < data_count sizes →
+    list_any (λ case. covers case (split (part_sizes parties sizes) (part_number parties sizes d))) cases ≡ list_any (λ case. covers case (split sizes d)) cases
+some-covers_part parties sizes ok [] names d h = refl
+some-covers_part parties sizes ok (case ∷ cases) names d h =
+    ap₂ ◌||◌ (covers-part parties sizes ok case (All-head (NamesOnly parties) case cases names) d h) (some-covers_part parties sizes ok cases (All-tail (NamesOnly parties) case cases names) d h)
+
+-- the least joint data whose parties' values no case covers are the least that no case covers
+pub outside-uncovered : (parties sizes : List ℕ) (cases : List Case) (set : List ℕ) → AreSizes sizes → All (NamesOnly parties) cases →
+    AreThose (part_sizes parties sizes) (λ values. list_any (λ case. covers case values) cases) set →
+    find (λ d. not (is_set set (part_number parties sizes d))) (range_with_len 0 (data_count sizes)) ≡ first_uncovered sizes cases
+outside-uncovered parties sizes cases set ok names those =
+    find-alike_within (λ d. not (is_set set (part_number parties sizes d))) (λ d. not (list_any (λ case. covers case (split sizes d)) cases)) 0 (data_count sizes) (λ d k.
+    let h : d < data_count sizes = omega (arith, k) in
+    ap (λ b. not b) (those (part_number parties sizes d) (number-below parties sizes ok d h)
+    ∙ tuple_covered (part_sizes parties sizes) cases (part_number parties sizes d)
+    ∙ some-covers_part parties sizes ok cases names d h))
 
 -- what is assigned to parties fits their sizes
 pub fits-part : (parties sizes : List ℕ) (case : Case) → All (λ a. a < length sizes) parties → NamesOnly parties case → AssignsBelow sizes case → AssignsBelow (part_sizes parties sizes) case

@@ -1,5 +1,5 @@
 -- Which joint data some case covers, and the least that none covers.
-use Rattle.std.proofs.Common.{◌≡◌, ◌≢◌, ℕ, ◌<◌, Bool, not, cond, ◌||◌, List, [], ◌∷◌, slice_index_or, Some, None, refl, sym, subst, ap, ap₂, ◌∙◌, arith}
+use Rattle.std.proofs.Common.{◌≡◌, ◌≢◌, ℕ, zero, suc, ◌+◌, ◌<◌, Bool, not, cond, ◌||◌, List, [], ◌∷◌, slice_index_or, Option, Some, None, Err, refl, sym, subst, ap, ap₂, ◌∙◌, arith}
 use Rattle.std.proofs.lemmas.Bool.{false≢true}
 use Rattle.std.proofs.lemmas.List.Elements.{All-from_get_or}
 use Rattle.std.specs.List.{All, find, list_any, range_with_len}
@@ -10,7 +10,7 @@ use Rattle.nego_data.specs.declared.cases.Case.{Case}
 use Rattle.nego_data.specs.Data.{data_count, split}
 use Rattle.nego_data.specs.Sizes.{tuple_of}
 use Rattle.nego_data.specs.Cases.{covers, rows_of}
-use Rattle.nego_data.specs.CaseForm.{AssignsBelow, AllCovered, IsFirstUncovered, first_uncovered}
+use Rattle.nego_data.specs.CaseForm.{AssignsBelow, AllCovered, IsFirstUncovered, HasTableFault, fault_of, first_uncovered, named_uncovered}
 use Rattle.nego_data.proofs.Tuples.{at-tuple_of}
 use Rattle.nego_data.proofs.Tables.{rows_of-table}
 use Rattle.nego_data.proofs.Additions.{covers-same_values}
@@ -57,3 +57,20 @@ module _ (sizes : List ℕ) (cases : List Case) where
       let below : d < data_count sizes = subst (λ n. d < n) (rows_of-table sizes cases).rows h in
       let k = rows_of-some sizes cases d below fits (covered d below) in
       λ e. is_in_none k.0 (slice_index_or (rows_of sizes cases) d []) e k.1)
+
+-- ---- the fault that tells it
+
+-- a fault that is told by joint data names them
+pub fault-named : (T : Type 0) (o : Option ℕ) → named_uncovered {T = T} (Err (fault_of o)) ≡ o
+fault-named T None = refl
+fault-named T (Some d) = refl
+
+-- and is so
+pub fault-is : (sizes : List ℕ) (cases : List Case) (o : Option ℕ) → o ≡ first_uncovered sizes cases → HasTableFault sizes cases (fault_of o)
+fault-is sizes cases None e = none-uncovered sizes cases (sym e)
+fault-is sizes cases (Some d) e = first-uncovered sizes cases d (sym e)
+
+-- tests that agree on a range find the same there
+pub find-alike_within : (one two : ℕ → Bool) (k n : ℕ) → ((d : ℕ) → d < k + n → one d ≡ two d) → find one (range_with_len k n) ≡ find two (range_with_len k n)
+find-alike_within one two k zero same = refl
+find-alike_within one two k (suc n) same = ap₂ (λ b rest. cond b (Some k) rest) (same k (omega arith)) (find-alike_within one two (k + 1) n (λ d h. same d (omega (arith, h))))

@@ -65,6 +65,11 @@ named_uncovered (Ok table) = None
 named_uncovered (Err (NotTotal d)) = Some d
 named_uncovered (Err Memory) = None
 
+-- why there is no table, by the least joint data that no case covers
+abbrev pub fault_of : Option ℕ → TableFault
+fault_of None = Memory
+fault_of (Some d) = NotTotal d
+
 -- This is the least joint data that no case covers.
 pub record IsFirstUncovered (sizes : List ℕ) (cases : List Case) (d : ℕ) : Type 0 where
   pub below : d < data_count sizes

@@ -1,15 +1,19 @@
 //! Which joint data a case covers.
-ghost use Rattle.std.specs.Prelude.{◌≡◌, not, find, All};
+ghost use Rattle.std.specs.Prelude.{◌≡◌, ◌<◌, not, find, All};
 ghost use Rattle.std.specs.List.{list_any, range_with_len};
+ghost use Rattle.nego_data.specs.BitRows.{is_set};
 ghost use Rattle.nego_data.specs.Data.{data_count};
+ghost use Rattle.nego_data.specs.Parts.{part_number, part_sizes};
 ghost use Rattle.nego_data.specs.Sizes.{tuple_of};
 ghost use Rattle.nego_data.specs.Cases.{covers, test_holds, operand_value, compares};
 ghost use Rattle.nego_data.specs.CaseForm.{TestBelow, OperandBelow};
 
 use crate::Sizes;
+use crate::bit_row::BitRow;
 use crate::cases::{Case, Operand, Test};
+use crate::parts::part_number;
 use crate::places::place_of;
-use nego_base::Op;
+use nego_base::{AgentSet, Op};
 
 /// The least joint data that no case covers.
 pub(crate) fn first_uncovered(sizes: &Sizes, cases: &[Case]) -> Option<u16>
@@ -17,6 +21,29 @@ pub(crate) fn first_uncovered(sizes: &Sizes, cases: &[Case]) -> Option<u16>
     ensures { result ≡ find (λ d. not (list_any (λ case. covers case (tuple_of sizes.now d)) cases.now)) (range_with_len 0 (data_count sizes.now)) }
 {
     (0..sizes.all()).find(|d| !any_covers(cases, &sizes.split(*d)))
+}
+
+/// The least joint data whose parties' values aren't in the set.
+pub(crate) fn first_outside(
+    sizes: &Sizes,
+    parties: AgentSet,
+    part: &Sizes,
+    set: &BitRow,
+) -> Option<u16>
+    requires { part.now ≡ part_sizes parties sizes.now }
+    ensures { result ≡ find (λ d. not (is_set set.now.words (part_number parties sizes.now d))) (range_with_len 0 (data_count sizes.now)) }
+{
+    (0..sizes.all()).find(|d| is_outside(sizes, parties, part, set, *d))
+}
+
+/// Whether the parties' values in these joint data aren't in the set.
+fn is_outside(sizes: &Sizes, parties: AgentSet, part: &Sizes, set: &BitRow, d: u16) -> bool
+    requires part { part.now ≡ part_sizes parties sizes.now }
+    requires below { d < data_count sizes.now }
+    ensures { result ≡ not (is_set set.now.words (part_number parties sizes.now d)) }
+{
+    let _all = part.all();
+    !set.has(part_number(parties, part, &sizes.split(d)))
 }
 
 /// Whether some case covers the values.

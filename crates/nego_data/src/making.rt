@@ -1,14 +1,14 @@
 //! The rows of an outcome's cases.
-ghost use Rattle.std.specs.Prelude.{◌≡◌, ◌≢◌, ℕ, ◌<◌, ◌≤◌, ◌&&◌, ◌||◌, ◌==◌, [], ◌∷◌, length, map, All, IsTrue, IfOk, IfErr, IfSome};
+ghost use Rattle.std.specs.Prelude.{◌≡◌, ◌≢◌, ℕ, ◌<◌, ◌≤◌, ◌&&◌, ◌||◌, ◌==◌, [], ◌∷◌, length, map, All, IsTrue, IfOk, IfErr};
 ghost use Rattle.nego_data.specs.BitRows.{is_set};
 ghost use Rattle.nego_data.specs.Data.{data_count};
 ghost use Rattle.nego_data.specs.Tables.{IsTable, is_related};
 ghost use Rattle.nego_data.specs.Cases.{covers, relates, rows_of};
-ghost use Rattle.nego_data.specs.CaseForm.{AssignsOnce, AssignsBelow, IsNamedBelow, AllCovered, TestBelow};
+ghost use Rattle.nego_data.specs.CaseForm.{AssignsOnce, AssignsBelow, IsNamedBelow, AllCovered, TestBelow, fault_of};
 ghost use Rattle.std.specs.List.{list_all, range_with_len};
 ghost use Rattle.nego_data.specs.Given.{is_above};
 ghost use Rattle.nego_data.specs.Sizes.{tuple_of};
-ghost use Rattle.nego_data.specs.Covered.{AreThose, IsKnown, keep_all, keeps_all};
+ghost use Rattle.nego_data.specs.Covered.{AreThose, IsKnown, TellsCovered, keep_all, keeps_all};
 ghost use Rattle.nego_data.specs.Assignments.{IsApplied};
 ghost use Rattle.nego_data.specs.Makers.{HasOffsets};
 ghost use Rattle.nego_data.specs.declared.making.TableFault.TheVariants.{Memory as Starved};
@@ -43,8 +43,36 @@ impl From<Memory> for TableFault {
     }
 }
 
-/// The rows of the cases over joint data of these sizes, which have these values. `None` where no case covers some of
-/// these.
+/// Why there are no rows.
+#[derive(Clone, Copy, Debug)]
+pub(crate) enum NoRows {
+    /// The cases cover just these joint data, and others there are.
+    Covered(BitRow),
+    /// Want of memory.
+    Memory,
+}
+
+impl From<Memory> for NoRows {
+    ghost use Rattle.nego_data.specs.declared.making.NoRows.TheVariants.{Memory as Starved};
+
+    ghost from_gives = { λ _ e. e ≡ Starved };
+
+    fn from(_error: Memory) -> NoRows {
+        NoRows::Memory
+    }
+}
+
+/// Why there is no table, by the least joint data that no case covers.
+pub(crate) fn fault_of(uncovered: Option<u16>) -> TableFault
+    ensures { result ≡ fault_of uncovered }
+{
+    match uncovered {
+        Some(d) => TableFault::NotTotal(d),
+        None => TableFault::Memory,
+    }
+}
+
+/// The rows of the cases over joint data of these sizes, which have these values.
 pub(crate) fn rows_of_cases(
     alloc: Global,
     sizes: &Sizes,
@@ -52,15 +80,16 @@ pub(crate) fn rows_of_cases(
     known: &mut Seq<Known>,
     offsets: &mut Seq<FreeOffsets>,
     cases: &[Case],
-) -> Result<Option<Rows>, Memory>
+) -> Result<Rows, NoRows>
     requires values { values.now ≡ map (tuple_of sizes.now) (range_with_len 0 (data_count sizes.now)) }
     requires known { All (IsKnown sizes.now) known.old }
     requires offsets { All (HasOffsets sizes.now) offsets.old }
     requires named { All (IsNamedBelow (length sizes.now)) cases.now }
     requires once { All AssignsOnce cases.now }
     requires fits { All (AssignsBelow sizes.now) cases.now }
-    ensures rows { IfOk result (λ made. IfSome made (λ rows. rows ≡ rows_of sizes.now cases.now)) }
-    ensures covered { IfOk result (λ made. IfSome made (λ _. AllCovered sizes.now cases.now)) }
+    ensures rows { IfOk result (λ rows. rows ≡ rows_of sizes.now cases.now) }
+    ensures covered { IfOk result (λ _. AllCovered sizes.now cases.now) }
+    ensures err { IfErr result (TellsCovered sizes.now cases.now) }
     ensures known { All (IsKnown sizes.now) known.new }
     ensures offsets { All (HasOffsets sizes.now) offsets.new }
 {
@@ -80,9 +109,9 @@ pub(crate) fn rows_of_cases(
         );
     }
     if !has_all(sizes, &covered) {
-        return Ok(None);
+        return Err(NoRows::Covered(covered));
     }
-    Ok(Some(rows))
+    Ok(rows)
 }
 
 /// Whether there is a case, and each covers all joint data and leaves them as they are.

@@ -1,9 +1,10 @@
 //! Tables for the outcomes of one atom.
-ghost use Rattle.std.specs.Prelude.{◌≡◌, ◌≢◌, ◌<◌, [], length, All, IsTrue, IfOk, IfErr, IfSome};
+ghost use Rattle.std.specs.Prelude.{◌≡◌, ◌≢◌, ◌<◌, [], length, All, IsTrue, IfOk, IfErr};
 ghost use Rattle.nego_data.specs.Data.{data_count};
 ghost use Rattle.nego_data.specs.Tables.{IsTable, is_related};
 ghost use Rattle.nego_data.specs.Cases.{rows_of};
-ghost use Rattle.nego_data.specs.CaseForm.{NamesOnly, AssignsOnce, AssignsBelow, AllCovered, HasTableFault, first_uncovered, named_uncovered};
+ghost use Rattle.nego_data.specs.CaseForm.{NamesOnly, AssignsOnce, AssignsBelow, AllCovered, HasTableFault, fault_of, first_uncovered, named_uncovered};
+ghost use Rattle.nego_data.specs.Covered.{TellsCovered};
 ghost use Rattle.nego_data.specs.Locality.{ActsOn};
 ghost use Rattle.nego_data.specs.Makers.{AreMadeOnce, IsMaker};
 ghost use Rattle.nego_data.specs.Parts.{part_sizes};
@@ -11,12 +12,12 @@ ghost use Rattle.nego_data.specs.Parts.{part_sizes};
 use crate::cases::Case;
 use crate::counting::make_once;
 use crate::covered::{Known, forget_known};
-use crate::covering::first_uncovered;
+use crate::covering::{first_outside, first_uncovered};
 use crate::giving::{FreeOffsets, forget_offsets};
-use crate::making::{TableFault, keep_all, rows_of_cases};
+use crate::making::{NoRows, TableFault, fault_of, keep_all, rows_of_cases};
 use crate::rows::Rows;
 use crate::{Sizes, Table};
-use nego_base::{AgentSet, Memory, Seq};
+use nego_base::{AgentSet, Seq};
 use std::alloc::Global;
 use std::marker::Model;
 
@@ -74,26 +75,38 @@ impl TableMaker {
         ensures err { IfErr result (HasTableFault self.old.sizes cases.now) }
         ensures same { self.new ≡ self.old }
     {
-        if let Ok(Some(rows)) = self.part_rows(alloc, cases) {
-            return Ok(Table::widened(&self.sizes, self.parties, self.part, rows));
-        }
-        match first_uncovered(&self.sizes, cases) {
-            Some(d) => Err(TableFault::NotTotal(d)),
-            None => Err(TableFault::Memory),
+        match self.part_rows(alloc, cases) {
+            Ok(rows) => Ok(Table::widened(&self.sizes, self.parties, self.part, rows)),
+            Err(why) => Err(self.fault(why, cases)),
         }
     }
 
-    /// The rows of the cases over the parties' values. `None` where no case covers some of these.
-    fn part_rows(&mut self, alloc: Global, cases: &[Case]) -> Result<Option<Rows>, Memory>
+    /// Why the cases have no table, where they have no rows.
+    fn fault(&self, why: NoRows, cases: &[Case]) -> TableFault
+        requires named { All (NamesOnly self.now.parties) cases.now }
+        requires told { TellsCovered (part_sizes self.now.parties self.now.sizes) cases.now why }
+        ensures { result ≡ fault_of (first_uncovered self.now.sizes cases.now) }
+    {
+        match why {
+            NoRows::Covered(set) => {
+                fault_of(first_outside(&self.sizes, self.parties, &self.part, &set))
+            }
+            NoRows::Memory => fault_of(first_uncovered(&self.sizes, cases)),
+        }
+    }
+
+    /// The rows of the cases over the parties' values.
+    fn part_rows(&mut self, alloc: Global, cases: &[Case]) -> Result<Rows, NoRows>
         requires named { All (NamesOnly self.old.parties) cases.now }
         requires once { All AssignsOnce cases.now }
         requires fits { All (AssignsBelow self.old.sizes) cases.now }
-        ensures rows { IfOk result (λ made. IfSome made (λ rows. rows ≡ rows_of (part_sizes self.old.parties self.old.sizes) cases.now)) }
-        ensures covered { IfOk result (λ made. IfSome made (λ _. AllCovered (part_sizes self.old.parties self.old.sizes) cases.now)) }
+        ensures rows { IfOk result (λ rows. rows ≡ rows_of (part_sizes self.old.parties self.old.sizes) cases.now) }
+        ensures covered { IfOk result (λ _. AllCovered (part_sizes self.old.parties self.old.sizes) cases.now) }
+        ensures err { IfErr result (TellsCovered (part_sizes self.old.parties self.old.sizes) cases.now) }
         ensures same { self.new ≡ self.old }
     {
         if keep_all(cases) {
-            return Ok(Some(Rows::identity(alloc, self.part.all())?));
+            return Ok(Rows::identity(alloc, self.part.all())?);
         }
         make_once(alloc, &self.part, &mut self.values)?;
         forget_known(&mut self.known);

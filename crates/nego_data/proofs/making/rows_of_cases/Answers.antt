@@ -1,4 +1,4 @@
-use Rattle.std.proofs.Common.{◌∙◌, ◌||◌, [], ◌∷◌, length, ap, ap₂, sym, subst, arith, lt-ltb}
+use Rattle.std.proofs.Common.{◌∙◌, ◌||◌, [], ◌∷◌, length, ap, sym, subst, lt-ltb}
 use Rattle.std.specs.List.{list_any, range_with_len}
 use Rattle.std.proofs.lemmas.List.{take_all}
 use Rattle.nego_base.proofs.Members.{all_at, is_in-range_zero}
@@ -56,3 +56,7 @@ returns-clause-covered c d h =
     ∙ ap (list_any (λ case. covers case (tuple_of sizes d))) (sym whole)
     ∙ sym (c.loop-case.invariant.covered d h)
     ∙ all_at (is_set c.loop-case.covered.words) (range_with_len 0 count) d (sym c.has_all.ensures ∙ c.if-not-has_all.false) (is_in-range_zero d count ∙ lt-ltb d count h)
+
+pub returns-then-not-has_all-clause-err : goal.returns-then-not-has_all-clause-err
+returns-then-not-has_all-clause-err c d h =
+    c.loop-case.invariant.covered d h ∙ ap (list_any (λ case. covers case (tuple_of c.args.sizes.now d))) (take_all c.loop-case.case-index c.args.cases.now c.loop-case-test.false)
