@@ -149,15 +149,7 @@ fn add_outcomes(
     let mut maker = TableMaker::new(alloc, sizes, numbers.parties);
     for (i, out) in outs.iter().enumerate() {
         let o = OutcomeId(outcomes.len() as u32);
-        outcomes.push(outcome_part(
-            alloc,
-            p,
-            &mut maker,
-            n,
-            o,
-            out,
-            &numbers.outs[i],
-        )?)?;
+        outcomes.push(outcome_part(alloc, p, &mut maker, n, o, out, &numbers.outs[i])?)?;
     }
     Ok(())
 }
@@ -187,15 +179,7 @@ fn outcome_part(
         name: Text::copy(alloc, out.name.text.as_slice())?,
         atom: AtomId(n as u32),
         nexts: next_sets(p, n, out, numbers.nexts.as_slice()),
-        table: table(
-            alloc,
-            p,
-            maker,
-            n,
-            o,
-            out,
-            numbers.cases.as_slice(),
-        )?,
+        table: table(alloc, p, maker, n, o, out, numbers.cases.as_slice())?,
     })
 }
 
