@@ -13,7 +13,7 @@ use Rattle.nego_model.specs.Limits.{IsWithinLimits}
 use Rattle.nego_model.specs.Summary.{final_outcomes}
 use Rattle.nego_expr.specs.declared.work.Work.TheInside.{Inside}
 use Rattle.nego_expr.specs.Fresh.{atoms_from, fresh_work, outcomes_of}
-use Rattle.nego_expr.specs.Sorted.{AreSlotsOf}
+use Rattle.nego_expr.specs.Sorted.{AreMembersOf, AreSlotsOf}
 use Rattle.nego_expr.specs.WorkView.{AreAlive, IsUsable, atom_among, atom_number, plain_outcome, plain_work}
 use Rattle.nego_expr.specs.Counts.{AreCountsOf, AreEntriesOf}
 use Rattle.nego_expr.proofs.FreshLists.{rises-range, numbers-outcomes_of, All-outcomes_of}
@@ -31,6 +31,7 @@ pub record IsBuilt (diagram : PlainDiagram) (w : Inside) : Type 0 where
   pub numbers : w.numbers ≡ length diagram.outcomes
   pub outcomes : map plain_outcome w.outcomes.items ≡ outcomes_of diagram 0 diagram.outcomes
   pub slots : AreSlotsOf (map plain_outcome w.outcomes.items) w.slots.items
+  pub members : AreMembersOf (map plain_outcome w.outcomes.items) w.members.items
   pub counts : AreCountsOf (map atom_number w.outcomes.items) w.counts
   pub entries : AreEntriesOf (map plain_outcome w.outcomes.items) w.entries
   pub names : w.names ≡ map (outcome_name diagram) (final_outcomes diagram)
@@ -83,6 +84,7 @@ module _ (diagram : PlainDiagram) (w : Inside) (built : IsBuilt diagram w) where
         alive = subst (λ n. AreAlive w.agents w.numbers n (map plain_outcome w.outcomes.items)) (sym nodes) (subst (λ n. AreAlive w.agents n count (map plain_outcome w.outcomes.items)) (sym built.numbers) agents_alive);
         few_numbers = omega (arith, built.numbers, limits.few_outcomes);
         sorted = built.slots;
+        members = built.members;
         counted = built.counts;
         entered = built.entries;
       }

@@ -16,6 +16,8 @@ pub mod KeptWorks
 pub mod Leading
 pub mod LocalWorks
 pub mod MadeUses
+pub mod MembersOf
+mod NextOf
 pub mod NodesAt
 pub mod OneAtomLeft
 pub mod Places

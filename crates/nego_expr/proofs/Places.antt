@@ -21,7 +21,7 @@ pub found-place : (ys : List WorkOutcome) (i : ℕ) (y : WorkOutcome) → IsRisi
 found-place ys i y rise e = All-at_place (λ z. outcome_among ys z.number ≡ Some z) ys i y (each_found ys rise) e
 
 -- numbers that rise from a low one are not below it
-numbers_above : (low : ℕ) (ys : List WorkOutcome) → RisesFrom low (numbers_of ys) → All (λ y. low ≤ y.number) ys
+pub numbers_above : (low : ℕ) (ys : List WorkOutcome) → RisesFrom low (numbers_of ys) → All (λ y. low ≤ y.number) ys
 numbers_above low [] h = All-nil (λ y. low ≤ y.number)
 numbers_above low (y ∷ ys) h =
     All-cons (λ z. low ≤ z.number) y ys h.0

@@ -12,7 +12,7 @@ use Rattle.nego_base.proofs.Members.{is_in_none, is_in-cases, rises-append, All-
 use Rattle.nego_expr.specs.Work.{WorkOutcome, parties_among}
 use Rattle.nego_expr.specs.Edits.{with_outcome, nodes_then, with_nodes_at}
 use Rattle.nego_expr.specs.Room.{RoomyNodes, RoomyWork}
-use Rattle.nego_expr.specs.Sorted.{PlainSlot, AreSlotsOf}
+use Rattle.nego_expr.specs.Sorted.{PlainSlot, AreMembersOf, AreSlotsOf}
 use Rattle.nego_expr.specs.WorkView.{atom_among, atom_number, plain_outcome, roomy_work, AreAlive, IsUsable}
 use Rattle.nego_expr.specs.Counts.{AreCountsOf, AreEntriesOf}
 use Rattle.nego_base.specs.Room.{WithRoom}
@@ -130,15 +130,16 @@ alive-then_each agents numbers x n nodes outcomes ok = record {
         (λ k y e. r (length nodes + k) y (All-at_place P (of_atom n outcomes) k y (All-filter (λ z. z.atom == n) P outcomes h) e))
 
 -- with more room they may be used too
-pub roomier : (w : Inside) (nodes : RoomyNodes) (outcomes : WithRoom Outcome) (slots : WithRoom PlainSlot) → nodes.nodes ≡ w.nodes.nodes → outcomes.items ≡ w.outcomes.items → slots.items ≡ w.slots.items → IsUsable w →
-    IsUsable (record w { nodes = nodes; outcomes = outcomes; slots = slots })
-roomier w nodes outcomes slots n o s ok = record {
+pub roomier : (w : Inside) (nodes : RoomyNodes) (outcomes : WithRoom Outcome) (slots members : WithRoom PlainSlot) → nodes.nodes ≡ w.nodes.nodes → outcomes.items ≡ w.outcomes.items → slots.items ≡ w.slots.items → members.items ≡ w.members.items → IsUsable w →
+    IsUsable (record w { nodes = nodes; outcomes = outcomes; slots = slots; members = members })
+roomier w nodes outcomes slots members n o s m ok = record {
   few_agents = ok.few_agents;
   few_atoms = ok.few_atoms;
   left_below = ok.left_below;
   alive = rw (n, o) ok.alive;
   few_numbers = ok.few_numbers;
   sorted = subst (AreSlotsOf (map plain_outcome outcomes.items)) (sym s) (subst (λ (xs : List Outcome). AreSlotsOf (map plain_outcome xs) w.slots.items) (sym o) ok.sorted);
+  members = subst (AreMembersOf (map plain_outcome outcomes.items)) (sym m) (subst (λ (xs : List Outcome). AreMembersOf (map plain_outcome xs) w.members.items) (sym o) ok.members);
   counted = subst (λ (xs : List Outcome). AreCountsOf (map atom_number xs) w.counts) (sym o) ok.counted;
   entered = subst (λ (xs : List Outcome). AreEntriesOf (map plain_outcome xs) w.entries) (sym o) ok.entered;
 }

@@ -1,5 +1,5 @@
 -- The alive outcomes of a work in the order of their atoms, their targets and their numbers.
-use Rattle.std.specs.Prelude.{◌≡◌, ◌↔◌, ℕ, List, map, Option, AllPairs, Contains}
+use Rattle.std.specs.Prelude.{◌≡◌, ◌↔◌, ℕ, ◌<◌, ◌≤◌, List, [], map, Option, AllPairs, Contains}
 use Rattle.std.specs.Option.{option_cmp}
 use Rattle.std.specs.Ordering.{nat_cmp, ordering_then}
 use Rattle.std.specs.declared.cmp.Ordering.{Ordering}
@@ -43,3 +43,23 @@ pub record IsSorted (outcomes : List WorkOutcome) (slots : List PlainSlot) : Typ
 -- Outcomes have one such list.
 abbrev pub SortedSlotsAreOne : Type 0
 SortedSlotsAreOne = (outcomes : List WorkOutcome) (one two : List PlainSlot) → IsSorted outcomes one → IsSorted outcomes two → one ≡ two
+
+-- ---- by number alone
+
+-- the slot of an outcome of this atom and number, without targets
+abbrev pub member : ℕ → ℕ → PlainSlot
+member n o = record { atom = n; targets = []; outcome = o }
+
+-- an alive outcome without its targets
+abbrev pub without_targets : WorkOutcome → WorkOutcome
+without_targets x = record x { targets = [] }
+
+-- These are the slots of the outcomes without their targets.
+abbrev pub AreMembersOf : List WorkOutcome → List PlainSlot → Type 0
+AreMembersOf outcomes slots = AreSlotsOf (map without_targets outcomes) slots
+
+-- Of the slots without targets of this atom, and with numbers not below the one, the least has this number.
+pub record IsNextOf (slots : List PlainSlot) (n from o : ℕ) : Type 0 where
+  pub at_least : from ≤ o
+  pub there : Contains slots (member n o)
+  pub least : (m : ℕ) → from ≤ m → m < o → Contains slots (member n m) → ⊥

@@ -6,7 +6,7 @@ use Rattle.nego_expr.specs.declared.work.Work.TheInside.{Inside}
 use Rattle.nego_expr.specs.Work.{WorkAtom, WorkOutcome, PlainWork}
 use Rattle.nego_expr.specs.Room.{RoomyWork}
 use Rattle.nego_expr.specs.Counts.{AreCountsOf, AreEntriesOf}
-use Rattle.nego_expr.specs.Sorted.{AreSlotsOf}
+use Rattle.nego_expr.specs.Sorted.{AreMembersOf, AreSlotsOf}
 
 -- an alive outcome, without the wrapping of its numbers
 abbrev pub plain_outcome : Outcome → WorkOutcome
@@ -40,7 +40,7 @@ plain_work w = record {
 
 -- the same, and for how many more nodes and outcomes there is room
 abbrev pub roomy_work : Inside → RoomyWork
-roomy_work w = record { plain = plain_work w; spare_nodes = w.nodes.room; spare_outcomes = min (min w.outcomes.room w.slots.room) (most_numbers - w.numbers) }
+roomy_work w = record { plain = plain_work w; spare_nodes = w.nodes.room; spare_outcomes = min (min w.outcomes.room (min w.slots.room w.members.room)) (most_numbers - w.numbers) }
 
 -- These are alive outcomes of a work with so many agents, numbers and nodes: their numbers rise and are below the
 -- least that was never used; each has a target or none for every agent, and a node that is there.
@@ -51,8 +51,8 @@ pub record AreAlive (agents numbers nodes : ℕ) (outcomes : List WorkOutcome) :
   pub there : All (λ outcome. outcome.node < nodes) outcomes
 
 -- What holds also between two edits: agents and atoms are few, each atom that is left has an entry of parties, the
--- outcomes are alive ones, the slots are theirs, each atom has its count of them and of those that lead to it from others,
--- and numbers have 32 bits.
+-- outcomes are alive ones, the slots and the members are theirs, each atom has its count of them and of those that lead to
+-- it from others, and numbers have 32 bits.
 pub record IsUsable (w : Inside) : Type 0 where
   pub few_agents : w.agents ≤ 16
   pub few_atoms : length w.parties ≤ 64
@@ -60,5 +60,6 @@ pub record IsUsable (w : Inside) : Type 0 where
   pub alive : AreAlive w.agents w.numbers (length w.nodes.nodes) (map plain_outcome w.outcomes.items)
   pub few_numbers : w.numbers ≤ most_numbers
   pub sorted : AreSlotsOf (map plain_outcome w.outcomes.items) w.slots.items
+  pub members : AreMembersOf (map plain_outcome w.outcomes.items) w.members.items
   pub counted : AreCountsOf (map atom_number w.outcomes.items) w.counts
   pub entered : AreEntriesOf (map plain_outcome w.outcomes.items) w.entries

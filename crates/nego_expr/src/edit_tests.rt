@@ -64,6 +64,7 @@ fn two_atoms(alloc: Global) -> Result<Work, Memory> {
         numbers: 0,
         outcomes: Reserved::new(alloc, 0)?,
         slots: Slots::new(alloc, 0)?,
+        members: Slots::new(alloc, 0)?,
         counts: Counts::none(),
         entries: Counts::none(),
         names: Seq::new(alloc),

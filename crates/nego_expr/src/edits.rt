@@ -59,6 +59,7 @@ impl Work {
         self.counts.add(n);
         self.entries.add_each(outcome.entered());
         self.slots.insert(&outcome);
+        self.members.insert(&outcome.without_targets());
         self.outcomes.push(outcome);
         number
     }
@@ -100,6 +101,7 @@ impl Work {
         self.slots.remove(&outcome);
         self.counts.remove(outcome.atom);
         self.entries.remove_each(outcome.entered());
+        self.members.remove(&outcome.without_targets());
     }
 
     /// Takes an atom and its outcomes away.
@@ -113,6 +115,7 @@ impl Work {
         self.outcomes.retain(|x| x.atom != n);
         self.slots.remove_atom(n);
         self.counts.clear(n);
+        self.members.remove_atom(n);
     }
 
     /// Makes an atom that is left the first.

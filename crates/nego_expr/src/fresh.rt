@@ -7,7 +7,7 @@ ghost use Rattle.nego_model.specs.Limits.{IsWithinLimits};
 ghost use Rattle.nego_model.specs.Summary.{final_outcomes};
 ghost use Rattle.nego_expr.specs.Counts.{AreCountsOf, AreEntriesOf};
 ghost use Rattle.nego_expr.specs.Fresh.{fresh_at, fresh_work, outcomes_of};
-ghost use Rattle.nego_expr.specs.Sorted.{AreSlotsOf};
+ghost use Rattle.nego_expr.specs.Sorted.{AreMembersOf, AreSlotsOf};
 ghost use Rattle.nego_expr.specs.StandsFor.{HasTheRuns, IsFresh, StandsFor};
 ghost use Rattle.nego_expr.specs.Use.{most_nodes};
 ghost use Rattle.nego_expr.specs.WorkFault.{WorkFaultHolds};
@@ -57,6 +57,7 @@ fn build(alloc: Global, d: &Diagram) -> Result<Work, Memory>
         slots: slots_of(alloc, alive.as_slice())?,
         counts: counts_of(d),
         entries: entries_of(alive.as_slice()),
+        members: members_of(alloc, alive.as_slice())?,
         outcomes: alive,
         names: final_names(alloc, d)?,
         bases: parties_of_outcomes(alloc, d)?,
@@ -107,6 +108,17 @@ fn slots_of(alloc: Global, outcomes: &[Outcome]) -> Result<Slots, Memory>
         slots.insert(outcome);
     }
     Ok(slots)
+}
+
+/// The same without their targets.
+fn members_of(alloc: Global, outcomes: &[Outcome]) -> Result<Slots, Memory>
+    ensures { IfOk result (λ members. AreMembersOf (map plain_outcome outcomes.now) members.items) }
+{
+    let mut members = Slots::new(alloc, outcomes.len())?;
+    for outcome in outcomes {
+        members.insert(&outcome.without_targets());
+    }
+    Ok(members)
 }
 
 /// How many of them each atom has.

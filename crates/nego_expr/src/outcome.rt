@@ -1,6 +1,7 @@
 //! Alive outcomes of a work.
 ghost use Rattle.std.specs.Prelude.{◌≡◌, ◌<◌, IfSome, option_map};
 ghost use Rattle.nego_expr.specs.Counts.{AreEntered};
+ghost use Rattle.nego_expr.specs.Sorted.{without_targets};
 ghost use Rattle.nego_expr.specs.Work.{sent_to};
 ghost use Rattle.nego_expr.specs.Use.{send_alike, sends_all};
 ghost use Rattle.nego_expr.specs.WorkView.{plain_outcome};
@@ -26,6 +27,16 @@ impl Outcome {
     {
         Outcome {
             targets: self.targets.copy(),
+            ..*self
+        }
+    }
+
+    /// The same outcome, without its targets.
+    pub(crate) fn without_targets(&self) -> Outcome
+        ensures { plain_outcome result ≡ without_targets (plain_outcome self.now) }
+    {
+        Outcome {
+            targets: Targets::none(0),
             ..*self
         }
     }

@@ -26,6 +26,7 @@ impl Work {
         self.nodes.reserve(nodes)?;
         self.outcomes.reserve(outcomes as usize)?;
         self.slots.reserve(outcomes as usize)?;
+        self.members.reserve(outcomes as usize)?;
         Ok(())
     }
 }

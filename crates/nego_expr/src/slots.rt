@@ -1,7 +1,7 @@
 //! The alive outcomes of a work in the order of their atoms, their targets and their numbers.
-ghost use Rattle.std.specs.Prelude.{◌≡◌, ◌≢◌, ◌↔◌, ◌⊎◌, ◌+◌, ◌-◌, ◌<◌, ◌≤◌, [], Some, length, map, max, slice_get, insert, remove, AllPairs, Contains, IfOk, IfErr, OnOk, OnErr};
+ghost use Rattle.std.specs.Prelude.{◌≡◌, ◌≢◌, ◌↔◌, ◌⊎◌, ℕ, ◌+◌, ◌-◌, ◌<◌, ◌≤◌, [], Some, length, map, max, slice_get, insert, remove, All, AllPairs, Contains, IfOk, IfErr, IfSome, IfNone, OnOk, OnErr};
 ghost use Rattle.std.specs.List.Sorted.{IsPartitionPoint};
-ghost use Rattle.nego_expr.specs.Sorted.{PlainSlot, plain_slot, slot_of, slot_cmp, IsBelow};
+ghost use Rattle.nego_expr.specs.Sorted.{PlainSlot, plain_slot, slot_of, slot_cmp, member, IsBelow, IsNextOf};
 ghost use Rattle.nego_expr.specs.WorkView.{plain_outcome};
 
 use crate::{Outcome, Targets};
@@ -30,14 +30,14 @@ impl Slot {
         }
     }
 
-    /// How it compares with the slot of an outcome.
-    fn compare(&self, x: &Outcome) -> Ordering
-        ensures { result ≡ slot_cmp (plain_slot self.now) (slot_of (plain_outcome x.now)) }
+    /// How it compares with the slot of this atom, these targets and this number.
+    fn compare(&self, n: AtomId, targets: &Targets, o: OutcomeId) -> Ordering
+        ensures { result ≡ slot_cmp (plain_slot self.now) (record { atom = n.0; targets = targets.now; outcome = o.0 }) }
     {
         self.atom
-            .cmp(&x.atom)
-            .then_with(|| self.targets.compare(&x.targets))
-            .then_with(|| self.outcome.cmp(&x.number))
+            .cmp(&n)
+            .then_with(|| self.targets.compare(targets))
+            .then_with(|| self.outcome.cmp(&o))
     }
 }
 
@@ -136,6 +136,25 @@ impl Slots {
     {
         self.slots.retain(|s| s.atom != n);
     }
+
+    /// Of slots without targets: the least number of those of the atom that isn't below this one.
+    pub(crate) fn next_of(&self, n: AtomId, from: OutcomeId) -> Option<OutcomeId>
+        requires { All (λ s. s.targets ≡ []) self.now.items }
+        ensures found { IfSome result (λ o. IsNextOf self.now.items n.0 from.0 o.0) }
+        ensures none { IfNone result ((m : ℕ) → from.0 ≤ m → Contains self.now.items (member n.0 m) → ⊥) }
+    {
+        let slots = self.slots.as_slice();
+        match search_for(slots, n, &Targets::none(0), from) {
+            Ok(_) => Some(from),
+            Err(i) => {
+                let slot = slots.get(i)?;
+                if slot.atom != n {
+                    return None;
+                }
+                Some(slot.outcome)
+            }
+        }
+    }
 }
 
 /// The place of the slot of an outcome, which is one of these rising slots.
@@ -171,5 +190,16 @@ fn search(slots: &[Slot], x: &Outcome) -> Result<usize, usize>
     ensures within { IfErr result (λ i. i ≤ length slots.now) }
     ensures err { IfErr result (λ i. IsPartitionPoint (λ s. slot_cmp s (slot_of (plain_outcome x.now)) ≡ Ordering.Less) (λ s. slot_cmp s (slot_of (plain_outcome x.now)) ≡ Ordering.Greater) (map plain_slot slots.now) i) }
 {
-    slots.binary_search_by(|s| s.compare(x))
+    search_for(slots, x.atom, &x.targets, x.number)
+}
+
+/// The place of the slot of this atom, these targets and this number, or the place where it is to stand.
+fn search_for(slots: &[Slot], n: AtomId, targets: &Targets, o: OutcomeId) -> Result<usize, usize>
+    requires { AllPairs IsBelow (map plain_slot slots.now) }
+    ensures ok { IfOk result (λ i. slice_get (map plain_slot slots.now) i ≡ Some (record { atom = n.0; targets = targets.now; outcome = o.0 })) }
+    ensures within { IfErr result (λ i. i ≤ length slots.now) }
+    ensures err { IfErr result (λ i. IsPartitionPoint (λ s. slot_cmp s (record { atom = n.0; targets = targets.now; outcome = o.0 }) ≡ Ordering.Less)
+        (λ s. slot_cmp s (record { atom = n.0; targets = targets.now; outcome = o.0 }) ≡ Ordering.Greater) (map plain_slot slots.now) i) }
+{
+    slots.binary_search_by(|s| s.compare(n, targets, o))
 }

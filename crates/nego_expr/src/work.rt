@@ -1,5 +1,5 @@
 //! A diagram under rewriting, and what may be asked of it.
-ghost use Rattle.std.specs.Prelude.{◌≡◌, ℕ, ◌<◌, ◌≤◌, ◌==◌, Some, None, IfSome, IfNone, slice_get, IsTrue, IsSome, filter, length, map, is_some, option_map};
+ghost use Rattle.std.specs.Prelude.{◌≡◌, ℕ, ◌<◌, ◌≤◌, ◌==◌, Some, None, IfSome, IfNone, slice_get, IsTrue, IsSome, filter, find, length, map, not, nat_lt, is_some, option_map};
 ghost use Rattle.nego_base.specs.Members.{is_in, IsRising};
 ghost use Rattle.nego_expr.specs.Sorted.{plain_slot, IsSorted};
 ghost use Rattle.nego_expr.specs.Use.{leads_in};
@@ -30,6 +30,8 @@ pub struct Work {
     pub(crate) outcomes: Reserved<Outcome>,
     /// Their slots, rising.
     pub(crate) slots: Slots,
+    /// The same slots without their targets, rising: by atom and number.
+    pub(crate) members: Slots,
     /// How many of them each atom has.
     pub(crate) counts: Counts,
     /// How many of them, of other atoms, lead to each atom.
@@ -142,6 +144,15 @@ impl Work {
     {
         let outcomes = self.outcomes.as_slice();
         outcomes.get(place_of(outcomes, o)?)
+    }
+
+    /// The first alive outcome of an atom whose number isn't below this one. Its own number isn't the greatest there is.
+    pub fn next_of(&self, n: AtomId, from: OutcomeId) -> Option<&Outcome>
+        ensures value { option_map (λ x. plain_outcome x.now) result ≡ find (λ x. not (nat_lt x.number from.0)) (outcomes_at self.now.plain n.0) }
+        ensures bound { IfSome result (λ x. x.now.number.0 < 4294967295) }
+    {
+        let o = self.members.next_of(n, from)?;
+        self.outcome(o)
     }
 
     /// How many alive outcomes an atom has.

@@ -1,5 +1,4 @@
 pub mod CloseKeeps
-mod OnlyOutcome
 pub mod Passed
 pub mod Sent
 pub mod ShortBackward

@@ -1,22 +1,24 @@
--- An outcome becomes itself and then each outcome of the atom that it enters, place by place.
-use Rattle.std.proofs.Common.{◌≡◌, ◌≢◌, ◌⊎◌, inl, inr, ⊎_elim, ℕ, suc, ◌+◌, ◌<◌, ◌≤◌, Bool, true, false, ◌==◌, cond, List, [], ◌∷◌, ◌++◌, length, map, slice_get, option_map, Option, Some, None, IsTrue, refl, sym, subst, ap, ap₂, ◌∙◌, arith, append-nil, append_assoc, add-zero, eq-eqb, ne_eqb}
-use Rattle.std.proofs.lemmas.Bool.{cond-true, cond-false, cases_eq}
-use Rattle.std.proofs.lemmas.Option.{same_Some, slice_get-map}
-use Rattle.std.proofs.lemmas.List.{length-append, length-map}
-use Rattle.std.specs.List.{All}
-use Rattle.nego_base.specs.Members.{is_in, with_member}
+-- An outcome becomes itself and then each outcome of the atom that it enters, by rising number.
+use Rattle.std.proofs.Common.{◌≡◌, ◌≢◌, ◌⊎◌, inl, inr, ⊎_elim, ℕ, suc, ◌+◌, ◌<◌, ◌≤◌, Bool, true, false, ◌==◌, cond, not, nat_lt, List, [], ◌∷◌, ◌++◌, length, map, option_map, Option, Some, None, IsTrue, refl, sym, subst, ap, ap₂, ◌∙◌, arith, append-nil, append_assoc, add-zero, eq-eqb, eqb-true, ne_eqb, lt-ltb}
+use Rattle.std.proofs.lemmas.Bool.{cond-true, cond-false, cases_eq, le-ltb, not_from_false}
+use Rattle.std.proofs.lemmas.Option.{none-some, same_Some}
+use Rattle.std.proofs.lemmas.List.{length-append}
+use Rattle.std.proofs.lemmas.List.Elements.{All-nil, All-cons, All-head, All-tail, All-append, All-weaker, All-contains, Contains-append_right, filter-append}
+use Rattle.std.specs.List.{All, Contains, filter, find}
+use Rattle.nego_base.specs.Members.{is_in, with_member, RisesFrom}
 use Rattle.nego_model.specs.Expression.{PlainNode, Then}
 use Rattle.nego_expr.specs.Work.{WorkOutcome, PlainWork, IsWork, outcome_at, outcomes_at, work_parties, sent_to}
 use Rattle.nego_expr.specs.Edits.{with_outcome, nodes_then}
 use Rattle.nego_expr.specs.Use.{targets_through, through, through_from, gone_through}
 use Rattle.nego_expr.proofs.AddedNodes.{length-nodes_then}
-use Rattle.nego_expr.proofs.NodesAt.{of_atom, own_of, other_of, of_atom-push, of_atom-pass, nodes_then-push}
-use Rattle.nego_expr.proofs.WorkEdits.{All-at_place, All-found, found-number, there_found, found-before, found-with_outcome}
+use Rattle.nego_expr.proofs.NodesAt.{nodes_then-push}
+use Rattle.nego_expr.proofs.WorkEdits.{numbers_of, rises-passing, All-found, found-number, there_found, found-before, found-with_outcome}
 use Rattle.nego_expr.proofs.WorkForm.{OutcomeFits, fits_from_work}
-use Rattle.nego_expr.proofs.Places.{found-place}
-use Rattle.nego_expr.proofs.Searching.{before_append, at_between}
+use Rattle.nego_expr.proofs.EditCalls.{only_found}
+use Rattle.nego_expr.proofs.RisingLists.{Contains-head, Contains-filter}
+use Rattle.nego_expr.proofs.Searching.{filter-none}
 use Rattle.nego_shortcut.specs.Passing.{MayPass, passed_one}
-use Rattle.nego_shortcut.proofs.ShortWorks.{IsEntry}
+use Rattle.nego_shortcut.proofs.ShortWorks.{IsEntry, All-through_from}
 
 module _ (from : PlainWork) (n : ℕ) (x : WorkOutcome) where
   -- one outcome more with the next number and node
@@ -61,76 +63,103 @@ module _ (from : PlainWork) (n : ℕ) (x : WorkOutcome) where
 
 -- ---- how far it has come
 
--- The outcomes before a place are passed, the rest are to come; the flag tells whether none of the atom was passed; there
+-- The atom's outcomes of numbers below one are passed, the rest are to come; the flag tells whether none was passed; there
 -- is room for those to come.
-pub record IsUpTo (from : PlainWork) (n : ℕ) (x : WorkOutcome) (i : ℕ) (to : PlainWork) (first : Bool) (nodes outcomes : ℕ) : Type 0 where
+pub record IsUpTo (from : PlainWork) (n : ℕ) (x : WorkOutcome) (low : ℕ) (to : PlainWork) (first : Bool) (nodes outcomes : ℕ) : Type 0 where
   pub done : List WorkOutcome
   pub rest : List WorkOutcome
-  pub whole : from.outcomes ≡ done ++ rest
-  pub place : length done ≡ i
-  pub made : to ≡ gone_through from n x (of_atom n done)
-  pub none_yet : ((first ≡ true) × (of_atom n done ≡ [])) ⊎ ((first ≡ false) × (d : WorkOutcome) × (ds : List WorkOutcome) × (of_atom n done ≡ d ∷ ds))
-  pub nodes_room : length (of_atom n rest) ≤ nodes
-  pub outcomes_room : length (of_atom n rest) ≤ outcomes + cond first 1 0
+  pub whole : outcomes_at from n ≡ done ++ rest
+  pub made : to ≡ gone_through from n x done
+  pub none_yet : ((first ≡ true) × (done ≡ [])) ⊎ ((first ≡ false) × (d : WorkOutcome) × (ds : List WorkOutcome) × (done ≡ d ∷ ds))
+  pub below : All (λ z. z.number < low) done
+  pub above : RisesFrom low (numbers_of rest)
+  pub nodes_room : length rest ≤ nodes
+  pub outcomes_room : length rest ≤ outcomes + cond first 1 0
+
+-- the first that isn't below the low number stands behind those that are
+find-behind : (low : ℕ) (done rest : List WorkOutcome) → All (λ z. z.number < low) done → find (λ z. not (nat_lt z.number low)) (done ++ rest) ≡ find (λ z. not (nat_lt z.number low)) rest
+find-behind low [] rest h = refl
+find-behind low (z ∷ zs) rest h =
+    cond-false (not (nat_lt z.number low)) (Some z) (find (λ w. not (nat_lt w.number low)) (zs ++ rest)) (ap not (lt-ltb z.number low (All-head (λ w. w.number < low) z zs h)))
+    ∙ find-behind low zs rest (All-tail (λ w. w.number < low) z zs h)
+
+find-first : (low : ℕ) (z : WorkOutcome) (zs : List WorkOutcome) → low ≤ z.number → find (λ w. not (nat_lt w.number low)) (z ∷ zs) ≡ Some z
+find-first low z zs h = cond-true (not (nat_lt z.number low)) (Some z) (find (λ w. not (nat_lt w.number low)) zs) (not_from_false (nat_lt z.number low) (le-ltb z.number low h))
 
 module _ (from : PlainWork) (n : ℕ) (x : WorkOutcome) (ok : IsWork from) (entry : IsEntry from x n) where
   -- at the beginning all are to come
   pub up_to_start : (nodes outcomes : ℕ) → length (outcomes_at from n) ≤ nodes → length (outcomes_at from n) ≤ outcomes + 1 → IsUpTo from n x 0 from true nodes outcomes
-  up_to_start nodes outcomes h k = record { done = []; rest = from.outcomes; whole = refl; place = refl; made = refl; none_yet = inl (refl, refl); nodes_room = h; outcomes_room = k }
+  up_to_start nodes outcomes h k = record {
+    done = [];
+    rest = outcomes_at from n;
+    whole = refl;
+    made = refl;
+    none_yet = inl (refl, refl);
+    below = All-nil (λ z. z.number < 0);
+    above = rises-passing (λ z. z.atom == n) 0 from.outcomes ok.numbers_rise;
+    nodes_room = h;
+    outcomes_room = k;
+  }
 
-  -- what stands at a place is what stood there, or the outcome that enters, of the same atom
-  seen : (ds : List WorkOutcome) (i : ℕ) (y : WorkOutcome) → slice_get from.outcomes i ≡ Some y → (z : WorkOutcome) × (slice_get (gone_through from n x ds).outcomes i ≡ Some z) × (z.atom ≡ y.atom) × (y.atom ≡ n → z ≡ y)
-  seen [] i y h = (y, h, refl, λ e. refl)
-  seen (d ∷ ds) i y h =
-      let changed = through from n x d x.number (length from.nodes) in
-      let at : slice_get (with_outcome changed from.outcomes ++ through_from from n x from.numbers (length from.nodes + 1) ds) i ≡ Some (cond (y.number == x.number) changed y) =
-      before_append (with_outcome changed from.outcomes) (through_from from n x from.numbers (length from.nodes + 1) ds) i (cond (y.number == x.number) changed y)
-      (slice_get-map (λ z. cond (z.number == x.number) changed z) from.outcomes i ∙ ap (option_map (λ z. cond (z.number == x.number) changed z)) h) in
-      ⊎_elim
-      (λ e.
-      let same : y ≡ x = same_Some y x (sym (found-place from.outcomes i y ok.numbers_rise h) ∙ (ap (outcome_at from) e ∙ entry.alive)) in
-      let is : cond (y.number == x.number) changed y ≡ changed = cond-true (y.number == x.number) changed y (own_number y e) in
-      (changed, at ∙ ap Some is, ap (λ z. z.atom) (sym same), λ k. absurd (entry.apart (ap (λ z. z.atom) (sym same) ∙ k))))
-      (λ other. (y, at ∙ ap Some (cond-false (y.number == x.number) changed y (other_number y other)), refl, λ k. refl))
-      (cases_eq y.number x.number)
+  -- the atom keeps its outcomes
+  kept : (ds : List WorkOutcome) → outcomes_at (gone_through from n x ds) n ≡ outcomes_at from n
+  kept [] = refl
+  kept (d ∷ ds) =
+      filter-append (λ z. z.atom == n) (with_outcome changed from.outcomes) more
+      ∙ (ap (λ zs. filter (λ z. z.atom == n) (with_outcome changed from.outcomes) ++ zs) (filter-none (λ z. z.atom == n) more none)
+      ∙ (append-nil (filter (λ z. z.atom == n) (with_outcome changed from.outcomes)) ∙ same from.outcomes (only_found from.outcomes x.number x ok.numbers_rise entry.alive)))
     where
-      own_number : (z : WorkOutcome) → z.number ≡ x.number → (z.number == x.number) ≡ true
-      own_number z e = eq-eqb z.number x.number e
+      changed : WorkOutcome
+      changed = through from n x d x.number (length from.nodes)
 
-      other_number : (z : WorkOutcome) → z.number ≢ x.number → (z.number == x.number) ≡ false
-      other_number z e = ne_eqb z.number x.number e
+      more : List WorkOutcome
+      more = through_from from n x from.numbers (length from.nodes + 1) ds
 
-  -- the outcome at the place
-  pub next_of : (i : ℕ) (to : PlainWork) (first : Bool) (nodes outcomes : ℕ) → (h : IsUpTo from n x i to first nodes outcomes) → i < length from.outcomes →
-      (y : WorkOutcome) × (rest : List WorkOutcome) × (h.rest ≡ y ∷ rest) × (slice_get from.outcomes i ≡ Some y) × (z : WorkOutcome) × (slice_get to.outcomes i ≡ Some z) × (z.atom ≡ y.atom) × (y.atom ≡ n → z ≡ y)
-  next_of i to first nodes outcomes h l = go h.rest refl
+      apart : (x.atom == n) ≡ false
+      apart = ne_eqb x.atom n entry.apart
+
+      none : All (λ z. (z.atom == n) ≡ false) more
+      none = All-through_from from n x (λ z. (z.atom == n) ≡ false) from.numbers (length from.nodes + 1) ds (λ k z e. apart)
+
+      same : (zs : List WorkOutcome) → All (λ z. z.number ≡ x.number → z ≡ x) zs → filter (λ z. z.atom == n) (with_outcome changed zs) ≡ filter (λ z. z.atom == n) zs
+      same [] h = refl
+      same (z ∷ zs) h = ⊎_elim
+          (λ e. ap (λ w. cond (w.atom == n) (w ∷ filter (λ v. v.atom == n) (with_outcome changed zs)) (filter (λ v. v.atom == n) (with_outcome changed zs)))
+          (cond-true (z.number == x.number) changed z (eq-eqb z.number x.number e))
+          ∙ (cond-false (x.atom == n) (changed ∷ filter (λ v. v.atom == n) (with_outcome changed zs)) (filter (λ v. v.atom == n) (with_outcome changed zs)) apart
+          ∙ (same zs (All-tail (λ w. w.number ≡ x.number → w ≡ x) z zs h)
+          ∙ sym (cond-false (z.atom == n) (z ∷ filter (λ v. v.atom == n) zs) (filter (λ v. v.atom == n) zs) (ap (λ w. w.atom == n) (All-head (λ w. w.number ≡ x.number → w ≡ x) z zs h e) ∙ apart)))))
+          (λ other. ap (λ w. cond (w.atom == n) (w ∷ filter (λ v. v.atom == n) (with_outcome changed zs)) (filter (λ v. v.atom == n) (with_outcome changed zs)))
+          (cond-false (z.number == x.number) changed z (ne_eqb z.number x.number other))
+          ∙ ap (λ ys. cond (z.atom == n) (z ∷ ys) ys) (same zs (All-tail (λ w. w.number ≡ x.number → w ≡ x) z zs h)))
+          (cases_eq z.number x.number)
+
+  -- what is found next is the first of those to come
+  finds : (low : ℕ) (to : PlainWork) (first : Bool) (nodes outcomes : ℕ) → (h : IsUpTo from n x low to first nodes outcomes) →
+      find (λ z. not (nat_lt z.number low)) (outcomes_at to n) ≡ find (λ z. not (nat_lt z.number low)) h.rest
+  finds low to first nodes outcomes h =
+      ap (find (λ z. not (nat_lt z.number low))) (ap (λ w. outcomes_at w n) h.made ∙ (kept h.done ∙ h.whole)) ∙ find-behind low h.done h.rest h.below
+
+  pub next_of : (low : ℕ) (to : PlainWork) (first : Bool) (nodes outcomes : ℕ) → (h : IsUpTo from n x low to first nodes outcomes) → (y : WorkOutcome) → find (λ z. not (nat_lt z.number low)) (outcomes_at to n) ≡ Some y →
+      (rest : List WorkOutcome) × (h.rest ≡ y ∷ rest)
+  next_of low to first nodes outcomes h y found = go h.rest h.above (sym (finds low to first nodes outcomes h) ∙ found)
     where
-      go : (rest : List WorkOutcome) → h.rest ≡ rest →
-          (y : WorkOutcome) × (more : List WorkOutcome) × (h.rest ≡ y ∷ more) × (slice_get from.outcomes i ≡ Some y) × (z : WorkOutcome) × (slice_get to.outcomes i ≡ Some z) × (z.atom ≡ y.atom) × (y.atom ≡ n → z ≡ y)
-      go [] e = absurd (
-          let all : length from.outcomes ≡ length h.done = ap length (h.whole ∙ (ap (λ zs. h.done ++ zs) e ∙ append-nil h.done)) in
-          let place : length h.done ≡ i = h.place in
-          omega (arith, all, place, l))
-      go (y ∷ more) e =
-          let at : slice_get from.outcomes i ≡ Some y = ap (slice_get from.outcomes) (sym h.place) ∙ (ap (λ zs. slice_get zs (length h.done)) (h.whole ∙ ap (λ zs. h.done ++ zs) e) ∙ at_between h.done more y) in
-          let k = seen (of_atom n h.done) i y at in
-          (y, more, e, at, k.0, ap (λ w. slice_get w.outcomes i) h.made ∙ k.1, k.2, k.3)
-
-  -- there are as many places as there were, at least
-  pub more_places : (ds : List WorkOutcome) → length from.outcomes ≤ length (gone_through from n x ds).outcomes
-  more_places [] = omega arith
-  more_places (d ∷ ds) =
-      let changed = through from n x d x.number (length from.nodes) in
-      let l = length-append (with_outcome changed from.outcomes) (through_from from n x from.numbers (length from.nodes + 1) ds) in
-      let c = length-map from.outcomes (λ z. cond (z.number == x.number) changed z) in
-      omega (arith, l, c)
+      go : (rest : List WorkOutcome) → RisesFrom low (numbers_of rest) → find (λ z. not (nat_lt z.number low)) rest ≡ Some y → (more : List WorkOutcome) × (rest ≡ y ∷ more)
+      go [] above e = absurd (none-some y e)
+      go (z ∷ zs) above e = (zs, ap (λ w. w ∷ zs) (same_Some z y (sym (find-first low z zs above.0) ∙ e)))
 
   -- what is asked to pass an outcome of the atom
-  pub may_pass : (ds : List WorkOutcome) (i : ℕ) (y : WorkOutcome) → slice_get from.outcomes i ≡ Some y → y.atom ≡ n → MayPass (gone_through from n x ds) n x y
-  may_pass ds i y at own = go ds
+  may_pass : (ds : List WorkOutcome) (y : WorkOutcome) → Contains (outcomes_at from n) y → MayPass (gone_through from n x ds) n x y
+  may_pass ds y c = go ds
     where
+      at : Contains from.outcomes y × IsTrue (y.atom == n)
+      at = (Contains-filter (λ z. z.atom == n) from.outcomes y).0 c
+
+      own : y.atom ≡ n
+      own = eqb-true y.atom n at.1
+
       fits : OutcomeFits from y
-      fits = All-at_place (OutcomeFits from) from.outcomes i y (fits_from_work from ok) at
+      fits = All-contains (OutcomeFits from) from.outcomes y (fits_from_work from ok) at.0
 
       leads : (a : ℕ) → IsTrue (is_in a (work_parties from n)) → sent_to y a ≢ None
       leads a p = fits.leads (λ e. entry.not_last (sym own ∙ e)) a (subst (λ m. IsTrue (is_in a (work_parties from m))) (sym own) p)
@@ -139,7 +168,7 @@ module _ (from : PlainWork) (n : ℕ) (x : WorkOutcome) (ok : IsWork from) (entr
       at_entry P h = All-found P from.outcomes x.number x h entry.alive
 
       there : y.node < length from.nodes
-      there = All-at_place (λ z. z.node < length from.nodes) from.outcomes i y ok.nodes_there at
+      there = All-contains (λ z. z.node < length from.nodes) from.outcomes y ok.nodes_there at.0
 
       go : (zs : List WorkOutcome) → MayPass (gone_through from n x zs) n x y
       go [] = record {
@@ -170,76 +199,59 @@ module _ (from : PlainWork) (n : ℕ) (x : WorkOutcome) (ok : IsWork from) (entr
             leads = leads;
           }
 
-  module _ (i : ℕ) (to : PlainWork) (first : Bool) (nodes outcomes : ℕ) (h : IsUpTo from n x i to first nodes outcomes) (y : WorkOutcome) (rest : List WorkOutcome) (split : h.rest ≡ y ∷ rest) (at : slice_get from.outcomes i ≡ Some y) where
-    longer : length (h.done ++ y ∷ []) ≡ i + 1
-    longer = length-append h.done (y ∷ []) ∙ ap (λ k. k + 1) h.place
+  module _ (low : ℕ) (to : PlainWork) (first : Bool) (nodes outcomes : ℕ) (h : IsUpTo from n x low to first nodes outcomes) (y : WorkOutcome) (rest : List WorkOutcome) (split : h.rest ≡ y ∷ rest) where
+    pub may_pass_next : MayPass to n x y
+    may_pass_next = subst (λ w. MayPass w n x y) (sym h.made)
+        (may_pass h.done y (subst (λ zs. Contains zs y) (sym (h.whole ∙ ap (λ zs. h.done ++ zs) split)) (Contains-append_right h.done (y ∷ rest) y (Contains-head y rest))))
 
-    whole : from.outcomes ≡ (h.done ++ y ∷ []) ++ rest
-    whole = h.whole ∙ (ap (λ zs. h.done ++ zs) split ∙ sym (append_assoc h.done (y ∷ []) rest))
-
-    pub may_pass_next : y.atom ≡ n → MayPass to n x y
-    may_pass_next own = subst (λ w. MayPass w n x y) (sym h.made) (may_pass (of_atom n h.done) i y at own)
+    fewer : length h.rest ≡ suc (length rest)
+    fewer = ap length split
 
     -- there is room for its node, and for its number where it isn't the first
-    pub room_next : y.atom ≡ n → (0 < nodes) × (first ≡ false → 0 < outcomes)
-    room_next own =
-        let l : length (of_atom n h.rest) ≡ suc (length (of_atom n rest)) = ap (λ zs. length (of_atom n zs)) split ∙ ap length (own_of n y rest own) in
-        let k : length (of_atom n h.rest) ≤ nodes = h.nodes_room in
-        (omega (arith, l, k), λ e. let m : length (of_atom n h.rest) ≤ outcomes + 0 = subst (λ b. length (of_atom n h.rest) ≤ outcomes + cond b 1 0) e h.outcomes_room in omega (arith, l, m))
+    pub room_next : (0 < nodes) × (first ≡ false → 0 < outcomes)
+    room_next =
+        let l = fewer in
+        let k : length h.rest ≤ nodes = h.nodes_room in
+        (omega (arith, l, k), λ e. let m : length h.rest ≤ outcomes + 0 = subst (λ b. length h.rest ≤ outcomes + cond b 1 0) e h.outcomes_room in omega (arith, l, m))
+
+    -- its number isn't below the low one
+    pub number_next : low ≤ y.number
+    number_next = (subst (λ zs. RisesFrom low (numbers_of zs)) split h.above).0
 
     -- it is passed
-    pub own_passed : (nodes' outcomes' : ℕ) → y.atom ≡ n → nodes ≤ nodes' + 1 → outcomes ≤ outcomes' + cond first 0 1 → IsUpTo from n x (i + 1) (passed_one to n x y first) false nodes' outcomes'
-    own_passed nodes' outcomes' own some_nodes some_outcomes = record {
+    pub passed : (nodes' outcomes' : ℕ) → nodes ≤ nodes' + 1 → outcomes ≤ outcomes' + cond first 0 1 → IsUpTo from n x (y.number + 1) (passed_one to n x y first) false nodes' outcomes'
+    passed nodes' outcomes' some_nodes some_outcomes = record {
       done = h.done ++ y ∷ [];
       rest = rest;
-      whole = whole;
-      place = longer;
-      made = ap (λ w. passed_one w n x y first) h.made ∙ (⊎_elim
+      whole = h.whole ∙ (ap (λ zs. h.done ++ zs) split ∙ sym (append_assoc h.done (y ∷ []) rest));
+      made = ap (λ w. passed_one w n x y first) h.made ∙ ⊎_elim
           (λ k. ap₂ (λ b ds. passed_one (gone_through from n x ds) n x y b) k.0 k.1 ∙ (passed_first from n x y ∙ ap (λ ds. gone_through from n x (ds ++ y ∷ [])) (sym k.1)))
           (λ k. ap₂ (λ b ds. passed_one (gone_through from n x ds) n x y b) k.0 k.3 ∙ (passed_more from n x k.1 k.2 y ∙ ap (λ ds. gone_through from n x (ds ++ y ∷ [])) (sym k.3)))
-          h.none_yet
-          ∙ ap (gone_through from n x) (sym (of_atom-push n h.done y own)));
-      none_yet = ⊎_elim
-          (λ k. inr (refl, y, [], of_atom-push n h.done y own ∙ ap (λ ds. ds ++ y ∷ []) k.1))
-          (λ k. inr (refl, k.1, k.2 ++ y ∷ [], of_atom-push n h.done y own ∙ ap (λ ds. ds ++ y ∷ []) k.3))
           h.none_yet;
-      nodes_room = let k : length (of_atom n h.rest) ≤ nodes = h.nodes_room in omega (arith, fewer, k, some_nodes);
+      none_yet = ⊎_elim
+          (λ k. inr (refl, y, [], ap (λ ds. ds ++ y ∷ []) k.1))
+          (λ k. inr (refl, k.1, k.2 ++ y ∷ [], ap (λ ds. ds ++ y ∷ []) k.3))
+          h.none_yet;
+      below = All-append (λ z. z.number < y.number + 1) h.done (y ∷ [])
+          (All-weaker (λ z. z.number < low) (λ z. z.number < y.number + 1) (λ z l. let k : z.number < low = l in omega (arith, k, number_next)) h.done h.below)
+          (All-cons (λ z. z.number < y.number + 1) y [] (omega arith) (All-nil (λ z. z.number < y.number + 1)));
+      above = (subst (λ zs. RisesFrom low (numbers_of zs)) split h.above).1;
+      nodes_room = let k : length h.rest ≤ nodes = h.nodes_room in let l = fewer in omega (arith, l, k, some_nodes);
       outcomes_room = room first h.outcomes_room some_outcomes;
     }
       where
-        fewer : length (of_atom n h.rest) ≡ suc (length (of_atom n rest))
-        fewer = ap (λ zs. length (of_atom n zs)) split ∙ ap length (own_of n y rest own)
+        room : (b : Bool) → length h.rest ≤ outcomes + cond b 1 0 → outcomes ≤ outcomes' + cond b 0 1 → length rest ≤ outcomes' + 0
+        room true p q = let l : length h.rest ≤ outcomes + 1 = p in let m : outcomes ≤ outcomes' + 0 = q in let k = fewer in omega (arith, k, l, m)
+        room false p q = let l : length h.rest ≤ outcomes + 0 = p in let m : outcomes ≤ outcomes' + 1 = q in let k = fewer in omega (arith, k, l, m)
 
-        room : (b : Bool) → length (of_atom n h.rest) ≤ outcomes + cond b 1 0 → outcomes ≤ outcomes' + cond b 0 1 → length (of_atom n rest) ≤ outcomes' + 0
-        room true p q = let l : length (of_atom n h.rest) ≤ outcomes + 1 = p in let m : outcomes ≤ outcomes' + 0 = q in omega (arith, fewer, l, m)
-        room false p q = let l : length (of_atom n h.rest) ≤ outcomes + 0 = p in let m : outcomes ≤ outcomes' + 1 = q in omega (arith, fewer, l, m)
-
-    -- an outcome of another atom is passed over
-    pub other_passed : y.atom ≢ n → IsUpTo from n x (i + 1) to first nodes outcomes
-    other_passed other = record {
-      done = h.done ++ y ∷ [];
-      rest = rest;
-      whole = whole;
-      place = longer;
-      made = h.made ∙ ap (gone_through from n x) (sym (of_atom-pass n h.done y other));
-      none_yet = ⊎_elim (λ k. inl (k.0, of_atom-pass n h.done y other ∙ k.1)) (λ k. inr (k.0, k.1, k.2, of_atom-pass n h.done y other ∙ k.3)) h.none_yet;
-      nodes_room = subst (λ k. k ≤ nodes) same h.nodes_room;
-      outcomes_room = subst (λ k. k ≤ outcomes + cond first 1 0) same h.outcomes_room;
-    }
-      where
-        same : length (of_atom n h.rest) ≡ length (of_atom n rest)
-        same = ap (λ zs. length (of_atom n zs)) split ∙ ap length (other_of n y rest other)
-
-  -- at the end all are passed
-  pub up_to_end : (i : ℕ) (to : PlainWork) (first : Bool) (nodes outcomes : ℕ) → IsUpTo from n x i to first nodes outcomes → length from.outcomes ≤ i → to ≡ gone_through from n x (outcomes_at from n)
-  up_to_end i to first nodes outcomes h l = go h.rest refl
+  -- where no more is found all are passed
+  pub up_to_end : (low : ℕ) (to : PlainWork) (first : Bool) (nodes outcomes : ℕ) → IsUpTo from n x low to first nodes outcomes → find (λ z. not (nat_lt z.number low)) (outcomes_at to n) ≡ None →
+      to ≡ gone_through from n x (outcomes_at from n)
+  up_to_end low to first nodes outcomes h none = go h.rest h.above (sym (finds low to first nodes outcomes h) ∙ none) refl
     where
-      go : (rest : List WorkOutcome) → h.rest ≡ rest → to ≡ gone_through from n x (outcomes_at from n)
-      go [] e = h.made ∙ ap (λ zs. gone_through from n x (of_atom n zs)) (sym (h.whole ∙ (ap (λ zs. h.done ++ zs) e ∙ append-nil h.done)))
-      go (y ∷ more) e = absurd (
-          let all : length from.outcomes ≡ length h.done + length (y ∷ more) = ap length (h.whole ∙ ap (λ zs. h.done ++ zs) e) ∙ length-append h.done (y ∷ more) in
-          let place : length h.done ≡ i = h.place in
-          omega (arith, all, place, l))
+      go : (rest : List WorkOutcome) → RisesFrom low (numbers_of rest) → find (λ z. not (nat_lt z.number low)) rest ≡ None → h.rest ≡ rest → to ≡ gone_through from n x (outcomes_at from n)
+      go [] above e is = h.made ∙ ap (gone_through from n x) (sym (h.whole ∙ (ap (λ zs. h.done ++ zs) is ∙ append-nil h.done)))
+      go (z ∷ zs) above e is = absurd (none-some z (sym e ∙ find-first low z zs above.0))
 
 -- ---- the edits of a pass
 

@@ -120,7 +120,7 @@ module _ (work : PlainWork) (n : ℕ) (x : WorkOutcome) where
       ap (λ p. through work n x y p (i + 1 + k)) q ∙ ap (λ j. through work n x y (o + suc k) j) r
 
   -- what holds of what each made holds of each
-  All-through_from : (P : WorkOutcome → Type 0) (o i : ℕ) (ys : List WorkOutcome) → ((k : ℕ) (z : WorkOutcome) → slice_get ys k ≡ Some z → P (through work n x z (o + k) (i + k))) → All P (through_from work n x o i ys)
+  pub All-through_from : (P : WorkOutcome → Type 0) (o i : ℕ) (ys : List WorkOutcome) → ((k : ℕ) (z : WorkOutcome) → slice_get ys k ≡ Some z → P (through work n x z (o + k) (i + k))) → All P (through_from work n x o i ys)
   All-through_from P o i [] h = All-nil P
   All-through_from P o i (y ∷ ys) h =
       All-cons P (through work n x y o i) (through_from work n x (o + 1) (i + 1) ys) (subst P (at_zero o i y) (h 0 y refl))

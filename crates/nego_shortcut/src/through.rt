@@ -1,5 +1,5 @@
 //! An outcome that enters an atom becomes itself and then each of the atom's outcomes.
-ghost use Rattle.std.specs.Prelude.{◌≡◌, ◌≢◌, ℕ, ◌+◌, ◌<◌, ◌≤◌, if◌then◌else◌, [], ◌∷◌, false, Some, None, IfSome, IsTrue, length, map, slice_index_or};
+ghost use Rattle.std.specs.Prelude.{◌≡◌, ◌≢◌, ℕ, ◌+◌, ◌<◌, ◌≤◌, if◌then◌else◌, false, Some, None, IsTrue, length, map, slice_index_or};
 ghost use Rattle.std.specs.List.{range_with_len};
 ghost use Rattle.nego_base.specs.Members.{is_in};
 ghost use Rattle.nego_expr.specs.Work.{IsWork, outcome_at, outcomes_at, sent_to};
@@ -7,7 +7,7 @@ ghost use Rattle.nego_expr.specs.Use.{enters, gone_through, targets_through};
 ghost use Rattle.nego_expr.specs.WorkView.{plain_outcome};
 ghost use Rattle.nego_shortcut.specs.Passing.{MayPass, passed_one};
 
-use nego_base::{AgentId, AgentSet, AtomId};
+use nego_base::{AgentId, AgentSet, AtomId, OutcomeId};
 use nego_expr::{Node, Outcome, Targets, Work};
 
 /// The outcome has become itself and then each of the atom's, for which there is room.
@@ -20,49 +20,13 @@ pub(crate) fn go_through(w: &mut Work, x: &Outcome, n: AtomId)
     requires outcomes { length (outcomes_at w.old.plain n.0) ≤ w.old.spare_outcomes + 1 }
     ensures { w.new.plain ≡ gone_through w.old.plain n.0 (plain_outcome x.now) (outcomes_at w.old.plain n.0) }
 {
-    match only_outcome(w, n) {
-        Some(y) => {
-            let y = y.copy();
-            pass(w, x, &y, n, true);
-        }
-        None => go_through_each(w, x, n),
-    }
-}
-
-/// The one outcome of the atom, where it has one. The sorted list has it first of those that aren't of a lesser atom.
-fn only_outcome(w: &Work, n: AtomId) -> Option<&Outcome>
-    ensures { IfSome result (λ y. outcomes_at w.now.plain n.0 ≡ plain_outcome y.now ∷ []) }
-{
-    if w.count_of(n) != 1 {
-        return None;
-    }
-    let slots = w.sorted();
-    let slot = slots.get(slots.partition_point(|s| s.atom < n))?;
-    let y = w.outcome(slot.outcome)?;
-    if y.atom != n {
-        return None;
-    }
-    Some(y)
-}
-
-/// The same by a pass over all outcomes: those of the atom keep their places.
-fn go_through_each(w: &mut Work, x: &Outcome, n: AtomId)
-    requires work { IsWork w.old.plain }
-    requires alive { outcome_at w.old.plain x.now.number.0 ≡ Some (plain_outcome x.now) }
-    requires enters { IsTrue (enters w.old.plain (plain_outcome x.now) n.0) }
-    requires few { n.0 < 64 }
-    requires nodes { length (outcomes_at w.old.plain n.0) ≤ w.old.spare_nodes }
-    requires outcomes { length (outcomes_at w.old.plain n.0) ≤ w.old.spare_outcomes + 1 }
-    ensures { w.new.plain ≡ gone_through w.old.plain n.0 (plain_outcome x.now) (outcomes_at w.old.plain n.0) }
-{
     let mut is_first = true;
-    for i in 0..w.outcomes().len() {
-        let y = &w.outcomes()[i];
-        if y.atom == n {
-            let y = y.copy();
-            pass(w, x, &y, n, is_first);
-            is_first = false;
-        }
+    let mut from = OutcomeId(0);
+    while let Some(y) = w.next_of(n, from) {
+        let y = y.copy();
+        pass(w, x, &y, n, is_first);
+        is_first = false;
+        from = OutcomeId(y.number.0 + 1);
     }
 }
 

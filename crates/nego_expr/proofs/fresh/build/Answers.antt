@@ -5,7 +5,7 @@ use Rattle.std.proofs.lemmas.Simd.{map-map}
 use Rattle.nego_expr.specs.declared.outcome.Outcome.{Outcome}
 use Rattle.nego_expr.specs.declared.work.Work.TheInside.{Inside}
 use Rattle.nego_expr.specs.Fresh.{fresh_work, outcomes_of}
-use Rattle.nego_expr.specs.Sorted.{AreSlotsOf}
+use Rattle.nego_expr.specs.Sorted.{AreMembersOf, AreSlotsOf}
 use Rattle.nego_expr.specs.WorkView.{plain_outcome, plain_work}
 use Rattle.nego_expr.specs.Counts.{AreCountsOf, AreEntriesOf}
 use Rattle.nego_expr.proofs.FreshBuilt.{IsBuilt, built_work, built_usable}
@@ -25,6 +25,7 @@ fields c = record {
   numbers = c.outcomes-2.result;
   outcomes = c.in_ok-alive.alive;
   slots = c.in_ok-slots_of.field-0;
+  members = c.in_ok-members_of.field-0;
   counts = c.counts_of.result;
   entries = c.entries_of.result;
   names = c.in_ok-final_names.field-0;
@@ -45,6 +46,7 @@ built c = record {
   numbers = c.outcomes-2.ensures.value;
   outcomes = c.in_ok-alive.ensures;
   slots = subst (λ (xs : List Outcome). AreSlotsOf (map plain_outcome xs) c.in_ok-slots_of.field-0.items) c.as_slice.ensures c.in_ok-slots_of.ensures;
+  members = subst (λ (xs : List Outcome). AreMembersOf (map plain_outcome xs) c.in_ok-members_of.field-0.items) c.as_slice-3.ensures c.in_ok-members_of.ensures;
   counts = subst (λ ns. AreCountsOf ns c.counts_of.result) (ap (map (λ x. x.atom)) (sym c.in_ok-alive.ensures) ∙ map-map (λ x. x.atom) plain_outcome c.in_ok-alive.alive.items) c.counts_of.ensures;
   entries = subst (λ (xs : List Outcome). AreEntriesOf (map plain_outcome xs) c.entries_of.result) c.as_slice-2.ensures c.entries_of.ensures;
   names = c.in_ok-final_names.ensures;

@@ -2,9 +2,10 @@ use Rattle.std.proofs.Common.{◌≡◌, ◌+◌, ◌-◌, ◌<◌, ◌∙◌, [
 use Rattle.std.proofs.lemmas.List.{map-append}
 use Rattle.nego_expr.specs.Work.{WorkOutcome}
 use Rattle.nego_expr.specs.Room.{RoomyWork}
-use Rattle.nego_expr.specs.Sorted.{AreSlotsOf}
+use Rattle.nego_expr.specs.Sorted.{AreMembersOf, AreSlotsOf}
 use Rattle.nego_expr.specs.WorkView.{atom_number, plain_outcome, AreAlive}
 use Rattle.nego_expr.specs.Counts.{AreCountsOf, AreEntriesOf}
+use Rattle.nego_expr.proofs.MembersOf.{members-add, unused_member}
 use Rattle.nego_expr.proofs.SlotsOf.{slots-add, unused_slot}
 use Rattle.nego_expr.proofs.Counting.{counts-add}
 use Rattle.nego_expr.proofs.Entries.{entries-add, entries_few}
@@ -30,6 +31,8 @@ invariant_of-self c =
           (subst fit (sym c.self.view_is) c.requires.fit) (subst there (sym c.self.view_is) c.requires.there));
       few_numbers = omega (arith, more);
       sorted = subst (λ os. AreSlotsOf os c.insert.new.self.items) (sym seen) (slots-add ys new w.slots.items c.insert.new.self.items c.self.invariant.sorted c.insert.ensures.items);
+      members = subst (λ os. AreMembersOf os c.insert-2.new.self.items) (sym seen)
+          (members-add ys new (plain_outcome c.without_targets.result) w.members.items c.insert-2.new.self.items c.self.invariant.members c.without_targets.ensures c.insert-2.ensures.items);
       counted = subst (λ ns. AreCountsOf ns c.add.new.self) (sym (ap (map atom_number) c.push.ensures.items ∙ map-append atom_number w.outcomes.items _))
           (counts-add (map atom_number w.outcomes.items) w.counts c.add.new.self c.args.n.0 c.self.invariant.counted c.add.ensures);
       entered = subst (λ os. AreEntriesOf os c.add_each.new.self) (sym seen) (entries-add new c.entered.result c.entered.ensures ys w.entries c.self.invariant.entered c.add_each.new.self c.add_each.ensures);
@@ -57,4 +60,6 @@ pub returns-clause-spare : goal.returns-clause-spare
 returns-clause-spare c =
     let w = c.self.inside in
     let fewer : c.insert.new.self.room ≡ w.slots.room - 1 = c.insert.ensures.room (unused_slot (map plain_outcome w.outcomes.items) w.numbers c.self.invariant.alive.used w.slots.items c.self.invariant.sorted _ refl) in
-    rw (← c.self.view_is) (omega (arith, fewer, c.push.ensures.room))
+    let fewer_members : c.insert-2.new.self.room ≡ w.members.room - 1 = c.insert-2.ensures.room
+    (unused_member (map plain_outcome w.outcomes.items) w.numbers c.self.invariant.alive.used w.members.items c.self.invariant.members (plain_outcome c.without_targets.result) (ap (λ x. x.number) c.without_targets.ensures)) in
+    rw (← c.self.view_is) (omega (arith, fewer, fewer_members, c.push.ensures.room))

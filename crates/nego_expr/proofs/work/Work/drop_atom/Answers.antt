@@ -5,10 +5,11 @@ use Rattle.std.proofs.lemmas.Fn.{filter_same}
 use Rattle.std.proofs.lemmas.List.Filters.{length-filter_both}
 use Rattle.nego_expr.specs.declared.outcome.Outcome.{Outcome}
 use Rattle.nego_expr.specs.Work.{WorkAtom, WorkOutcome}
-use Rattle.nego_expr.specs.Sorted.{AreSlotsOf}
+use Rattle.nego_expr.specs.Sorted.{AreMembersOf, AreSlotsOf}
 use Rattle.nego_expr.specs.WorkView.{atom_number, plain_outcome, plain_work, atom_among, AreAlive}
 use Rattle.nego_expr.specs.Counts.{AreCountsOf, AreEntriesOf}
 use Rattle.nego_expr.proofs.Counting.{counts-clear}
+use Rattle.nego_expr.proofs.MembersOf.{members-without_atom}
 use Rattle.nego_expr.proofs.Places.{filter-seen}
 use Rattle.nego_expr.proofs.SlotsOf.{slots-without_atom}
 use Rattle.nego_expr.proofs.UsableWorks.{left_few, atoms-without, alive-filter}
@@ -24,11 +25,11 @@ pub clear-requires : goal.clear-requires
 clear-requires c = left_few c.self.inside c.args.self.now c.args.n.0 c.self.invariant c.self.view_is c.requires.left
 
 -- the items that are kept
-kept : (c : goal.After-clear) → c.retain.new.self.items ≡ filter (λ (x : Outcome). not (x.atom.0 == c.args.n.0)) c.self.inside.outcomes.items
+kept : (c : goal.After-remove_atom-2) → c.retain.new.self.items ≡ filter (λ (x : Outcome). not (x.atom.0 == c.args.n.0)) c.self.inside.outcomes.items
 kept c = filter_same _ (λ (x : Outcome). not (x.atom.0 == c.args.n.0)) _ (λ x b f called. search rules) _ _ c.retain.ensures.items
 
 -- the outcomes after the edit
-after : (c : goal.After-clear) → map plain_outcome c.retain.new.self.items ≡ filter (λ x. not (x.atom == c.args.n.0)) (map plain_outcome c.self.inside.outcomes.items)
+after : (c : goal.After-remove_atom-2) → map plain_outcome c.retain.new.self.items ≡ filter (λ x. not (x.atom == c.args.n.0)) (map plain_outcome c.self.inside.outcomes.items)
 after c = ap (map plain_outcome) (kept c) ∙ filter-seen plain_outcome (λ x. not (x.atom == c.args.n.0)) c.self.inside.outcomes.items
 
 pub invariant_of-self : goal.invariant_of-self
@@ -44,6 +45,8 @@ invariant_of-self c =
       few_numbers = c.self.invariant.few_numbers;
       sorted = subst (λ os. AreSlotsOf os c.remove_atom.new.self.items) (sym (after c))
           (slots-without_atom c.args.n.0 (map plain_outcome w.outcomes.items) w.slots.items c.remove_atom.new.self.items c.self.invariant.sorted c.remove_atom.ensures.items);
+      members = subst (λ os. AreMembersOf os c.remove_atom-2.new.self.items) (sym (after c))
+          (members-without_atom c.args.n.0 (map plain_outcome w.outcomes.items) w.members.items c.remove_atom-2.new.self.items c.self.invariant.members c.remove_atom-2.ensures.items);
       counted = subst (λ ns. AreCountsOf ns c.clear.new.self) (sym (ap (map atom_number) (kept c) ∙ filter-seen atom_number (λ m. not (m == c.args.n.0)) w.outcomes.items))
           (counts-clear (map atom_number w.outcomes.items) w.counts c.clear.new.self c.args.n.0 c.self.invariant.counted c.clear.ensures);
       entered = subst (λ os. AreEntriesOf os c.remove_entries.new.entries) (sym (after c))

@@ -2,12 +2,13 @@ use Rattle.std.proofs.Common.{◌≡◌, ℕ, ◌==◌, not, List, Option, Some,
 use Rattle.nego_expr.specs.declared.outcome.Outcome.{Outcome}
 use Rattle.std.specs.List.{filter}
 use Rattle.nego_expr.specs.Work.{outcome_among}
-use Rattle.nego_expr.specs.Sorted.{AreSlotsOf}
+use Rattle.nego_expr.specs.Sorted.{AreMembersOf, AreSlotsOf}
 use Rattle.std.proofs.lemmas.Option.{slice_get-map}
 use Rattle.nego_expr.specs.WorkView.{atom_number, plain_outcome, plain_work, AreAlive}
 use Rattle.nego_expr.specs.Counts.{AreCountsOf, AreEntriesOf}
 use Rattle.nego_expr.proofs.Counting.{counted-there, counts-remove}
 use Rattle.nego_expr.proofs.Entries.{entries-remove, entries_some}
+use Rattle.nego_expr.proofs.MembersOf.{member-found, members-without}
 use Rattle.nego_expr.proofs.Places.{remove-found, remove-seen}
 use Rattle.nego_expr.proofs.SlotsOf.{slot-found, slots-without}
 use Rattle.nego_expr.proofs.UsableWorks.{alive-filter}
@@ -57,6 +58,13 @@ remove_each-requires c m there =
     let b = (goal.at.remove_each-requires c).After-remove-outcome in
     entries_some (plain_outcome b.remove-outcome.result) c.entered.result c.entered.ensures (map plain_outcome w.outcomes.items) w.entries c.self.invariant.entered b.unwrap-i.result (outcome_there b) m there
 
+pub remove-requires-3 : goal.remove-requires-3
+remove-requires-3 c =
+    let w = c.self.inside in
+    let b = (goal.at.remove-requires-3 c).After-remove-outcome in
+    member-found (map plain_outcome w.outcomes.items) c.self.invariant.alive.rising c.args.o.0 (plain_outcome b.remove-outcome.result) (found b) (plain_outcome c.without_targets.result) c.without_targets.ensures
+    w.members.items c.self.invariant.members
+
 pub invariant_of-self : goal.invariant_of-self
 invariant_of-self c =
     let w = c.self.inside in
@@ -70,6 +78,9 @@ invariant_of-self c =
       few_numbers = c.self.invariant.few_numbers;
       sorted = subst (λ os. AreSlotsOf os c.remove.new.self.items) (sym (after b))
           (slots-without (map plain_outcome w.outcomes.items) c.self.invariant.alive.rising c.args.o.0 (plain_outcome b.remove-outcome.result) (found b) w.slots.items c.self.invariant.sorted c.remove.new.self.items c.remove.ensures.items);
+      members = subst (λ os. AreMembersOf os c.remove-3.new.self.items) (sym (after b))
+          (members-without (map plain_outcome w.outcomes.items) c.self.invariant.alive.rising c.args.o.0 (plain_outcome b.remove-outcome.result) (found b) (plain_outcome c.without_targets.result) c.without_targets.ensures
+          w.members.items c.remove-3.new.self.items c.self.invariant.members c.remove-3.ensures.items);
       counted = subst (λ ns. AreCountsOf ns c.remove-2.new.self) (sym (ap (map atom_number) b.remove-outcome.ensures.items ∙ remove-seen atom_number w.outcomes.items b.unwrap-i.result))
           (counts-remove (map atom_number w.outcomes.items) w.counts c.remove-2.new.self (atom_number b.remove-outcome.result) c.self.invariant.counted b.unwrap-i.result (atom_there b) c.remove-2.ensures);
       entered = subst (λ os. AreEntriesOf os c.remove_each.new.self) (sym (ap (map plain_outcome) b.remove-outcome.ensures.items ∙ remove-seen plain_outcome w.outcomes.items b.unwrap-i.result))

@@ -7,12 +7,13 @@ use Rattle.nego_expr.specs.declared.outcome.Outcome.{Outcome}
 use Rattle.nego_expr.specs.Work.{WorkOutcome, outcome_among}
 use Rattle.nego_expr.specs.Edits.{with_outcome}
 use Rattle.nego_expr.specs.Room.{RoomyWork}
-use Rattle.nego_expr.specs.Sorted.{PlainSlot, slot_of, AreSlotsOf}
+use Rattle.nego_expr.specs.Sorted.{PlainSlot, slot_of, AreMembersOf, AreSlotsOf}
 use Rattle.nego_expr.specs.WorkView.{atom_number, plain_outcome, plain_work, AreAlive}
 use Rattle.nego_expr.specs.Counts.{AreCountsOf, AreEntriesOf}
 use Rattle.nego_expr.proofs.Entries.{entries-set, entries_room, entries_some}
 use Rattle.nego_expr.proofs.Places.{set-found}
 use Rattle.nego_expr.proofs.WorkEdits.{All-found, found-number}
+use Rattle.nego_expr.proofs.MembersOf.{members-set}
 use Rattle.nego_expr.proofs.SlotsOf.{slot-found, slots-set}
 use Rattle.nego_expr.proofs.UsableWorks.{alive-set, few_outcomes}
 use Rattle.nego_expr.proofs.work.Work.set_outcome.Goals as goal
@@ -92,6 +93,8 @@ invariant_of-self c =
       sorted = subst (λ os. AreSlotsOf os c.replace.new.self.items) (sym (after c))
           (slots-set outcomes c.self.invariant.alive.rising c.args.o.0 (old b) (found b) w.slots.items c.self.invariant.sorted (new b) same c.replace.new.self.items
           (subst (λ n. (slot : PlainSlot) → Contains c.replace.new.self.items slot ↔ ((Contains w.slots.items slot × (slot ≢ slot_of (old b))) ⊎ (slot ≡ slot_of (record (new b) { number = n })))) (sym same) c.replace.ensures.items));
+      members = subst (λ os. AreMembersOf os w.members.items) (sym (after c))
+          (members-set outcomes c.self.invariant.alive.rising c.args.o.0 (old b) (found b) (new b) same refl w.members.items c.self.invariant.members);
       counted = subst (λ ns. AreCountsOf ns w.counts)
           (sym (ap (map atom_number) c.set.ensures.items ∙ map-set_same atom_number w.outcomes.items c.unwrap-i.result _ c.index-outcomes-i.result (ap atom_number (read b)))) c.self.invariant.counted;
       entered = subst (λ os. AreEntriesOf os c.add_each.new.self) (sym (ap (map plain_outcome) c.set.ensures.items ∙ map-set plain_outcome w.outcomes.items c.unwrap-i.result _))

@@ -1,10 +1,11 @@
 use Rattle.std.proofs.Common.{◌↔◌, length, map, sym, subst, ap, ◌∙◌}
 use Rattle.std.specs.List.{Contains}
-use Rattle.nego_expr.specs.Sorted.{PlainSlot, slot_of}
+use Rattle.nego_expr.specs.Sorted.{PlainSlot, slot_of, AreMembersOf}
 use Rattle.std.proofs.lemmas.Simd.{map-map}
 use Rattle.nego_expr.specs.WorkView.{plain_outcome}
 use Rattle.nego_expr.specs.Counts.{AreCountsOf, AreEntriesOf}
 use Rattle.nego_expr.proofs.Entries.{entries-with_nodes_at}
+use Rattle.nego_expr.proofs.MembersOf.{members-with_nodes_at}
 use Rattle.nego_expr.proofs.SlotsOf.{atoms-with_nodes_at, slots-with_nodes_at}
 use Rattle.nego_expr.proofs.UsableWorks.{alive-then_each}
 use Rattle.nego_expr.proofs.work.Work.then_each.Goals as goal
@@ -21,6 +22,7 @@ invariant_of-self c =
       few_numbers = c.self.invariant.few_numbers;
       sorted = subst (λ l. (slot : PlainSlot) → Contains w.slots.items slot ↔ Contains l slot)
           (sym (ap (map slot_of) c.then_each.ensures.outcomes ∙ slots-with_nodes_at c.args.n.0 (length w.nodes.nodes) (map plain_outcome w.outcomes.items))) c.self.invariant.sorted;
+      members = subst (λ os. AreMembersOf os w.members.items) (sym c.then_each.ensures.outcomes) (members-with_nodes_at c.args.n.0 (length w.nodes.nodes) (map plain_outcome w.outcomes.items) w.members.items c.self.invariant.members);
       counted = subst (λ ns. AreCountsOf ns w.counts)
           (sym (sym (map-map (λ x. x.atom) plain_outcome c.then_each.new.outcomes.items)
           ∙ (ap (map (λ x. x.atom)) c.then_each.ensures.outcomes
