@@ -1,5 +1,6 @@
 -- The order of slots: it is total, and tells slots apart.
-use Rattle.std.proofs.Common.{◌≡◌, ◌<◌, ℕ, zero, suc, List, [], ◌∷◌, map, Some, None, refl, sym, ap, ap₂, ◌∙◌, arith}
+use Rattle.std.proofs.Common.{◌≡◌, ◌≢◌, ◌↔◌, ◌⊎◌, inl, inr, ⊎_elim, ◌<◌, false, ℕ, zero, suc, List, [], ◌∷◌, map, Some, None, IsTrue, refl, sym, subst, ap, ap₂, ◌∙◌, arith}
+use Rattle.std.specs.List.{Contains}
 use Rattle.std.specs.Option.{option_cmp}
 use Rattle.std.specs.Ordering.{MatchOrdering, nat_cmp, ordering_then, is_eq}
 use Rattle.std.specs.Cmp.{IsTotalOrder, nat_cmp_is, ranked}
@@ -8,7 +9,7 @@ use Rattle.std.specs.Cmp.Lexicographic.{slice_cmp, lists_total, options_total}
 use Rattle.std.specs.declared.cmp.Ordering.{Ordering}
 use Rattle.std.specs.declared.cmp.Ordering.TheVariants.{Less, Equal, Greater}
 use Rattle.std.proofs.lemmas.Bool.{false≢true}
-use Rattle.std.proofs.lemmas.Cmp.{nat_cmp_total, on_total, then_total}
+use Rattle.std.proofs.lemmas.Cmp.{nat_cmp_total, on_total, then_total, tied_itself}
 use Rattle.std.proofs.lemmas.Map.Lookups.{CmpEqualImpliesEq, exact_unsigned}
 use Rattle.nego_expr.specs.Sorted.{PlainSlot, slot_cmp}
 use Rattle.nego_expr.specs.Targets.{target_of}
@@ -61,3 +62,20 @@ exact_slots s t h =
     let k = then_parts (nat_cmp s.atom t.atom) (ordering_then (slice_cmp (option_cmp nat_cmp) s.targets t.targets) (nat_cmp s.outcome t.outcome)) h in
     let l = then_parts (slice_cmp (option_cmp nat_cmp) s.targets t.targets) (nat_cmp s.outcome t.outcome) k.1 in
     λ i. record { atom = exact_unsigned s.atom t.atom k.0 i; targets = exact_targets s.targets t.targets l.0 i; outcome = exact_unsigned s.outcome t.outcome l.1 i }
+
+pub equal_is : (r : Ordering) → IsTrue (is_eq r) → r ≡ Equal
+equal_is Less h = absurd (false≢true h)
+equal_is Equal h = refl
+equal_is Greater h = absurd (false≢true h)
+
+-- a slot of a list is another than the one, or the one
+pub same_slots : (xs : List PlainSlot) (z : PlainSlot) → Contains xs z → (slot : PlainSlot) → Contains xs slot ↔ ((Contains xs slot × (slot ≢ z)) ⊎ (slot ≡ z))
+same_slots xs z there slot = (λ c. go (slot_cmp slot z) refl c, λ h. ⊎_elim (λ k. k.0) (λ e. subst (Contains xs) (sym e) there) h)
+  where
+    apart : (r : Ordering) → slot_cmp slot z ≡ r → is_eq r ≡ false → slot ≢ z
+    apart r e f q = false≢true (sym f ∙ ap is_eq (sym e ∙ (ap (λ s. slot_cmp s z) q ∙ tied_itself slot_order z)))
+
+    go : (r : Ordering) → slot_cmp slot z ≡ r → Contains xs slot → (Contains xs slot × (slot ≢ z)) ⊎ (slot ≡ z)
+    go Less e c = inl (c, apart Less e refl)
+    go Equal e c = inr (exact_slots slot z e)
+    go Greater e c = inl (c, apart Greater e refl)

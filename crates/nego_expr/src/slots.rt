@@ -1,5 +1,5 @@
 //! The alive outcomes of a work in the order of their atoms, their targets and their numbers.
-ghost use Rattle.std.specs.Prelude.{◌≡◌, ◌≢◌, ◌↔◌, ◌⊎◌, ℕ, ◌+◌, ◌-◌, ◌<◌, ◌≤◌, [], Some, length, map, max, slice_get, insert, remove, All, AllPairs, Contains, IfOk, IfErr, IfSome, IfNone, OnOk, OnErr};
+ghost use Rattle.std.specs.Prelude.{◌≡◌, ◌≢◌, ◌↔◌, ◌⊎◌, ℕ, ◌+◌, ◌-◌, ◌<◌, ◌≤◌, [], Some, length, map, max, slice_get, insert, remove, All, AllPairs, Contains, IfOk, IfErr, IfSome, IfNone, IsTrue, OnOk, OnErr};
 ghost use Rattle.std.specs.List.Sorted.{IsPartitionPoint};
 ghost use Rattle.nego_expr.specs.Sorted.{PlainSlot, plain_slot, slot_of, slot_cmp, member, IsBelow, IsNextOf};
 ghost use Rattle.nego_expr.specs.WorkView.{plain_outcome};
@@ -109,8 +109,20 @@ impl Slots {
         let _ = self.slots.remove(i);
     }
 
-    /// Puts the slot of an outcome in the place of another's.
+    /// Puts the slot of an outcome in the place of another's. Where they are the same nothing is moved.
     pub(crate) fn replace(&mut self, old: &Outcome, new: &Outcome)
+        requires { Contains self.old.items (slot_of (plain_outcome old.now)) }
+        ensures items { (slot : PlainSlot) → Contains self.new.items slot ↔ ((Contains self.old.items slot × (slot ≢ slot_of (plain_outcome old.now))) ⊎ (slot ≡ slot_of (plain_outcome new.now))) }
+        ensures room { self.old.room ≤ self.new.room }
+    {
+        if are_alike(old, new) {
+            return;
+        }
+        self.exchange(old, new);
+    }
+
+    /// The same, with a search for each of the two places.
+    fn exchange(&mut self, old: &Outcome, new: &Outcome)
         requires { Contains self.old.items (slot_of (plain_outcome old.now)) }
         ensures items { (slot : PlainSlot) → Contains self.new.items slot ↔ ((Contains self.old.items slot × (slot ≢ slot_of (plain_outcome old.now))) ⊎ (slot ≡ slot_of (plain_outcome new.now))) }
         ensures room { self.old.room ≤ self.new.room }
@@ -181,6 +193,13 @@ fn put_instead(slots: &mut Reserved<Slot>, from: usize, to: usize, x: &Outcome)
         gap = next;
     }
     slots.set(to, Slot::of(x));
+}
+
+/// Whether two outcomes have the same slot.
+fn are_alike(x: &Outcome, y: &Outcome) -> bool
+    ensures { IsTrue result → slot_of (plain_outcome x.now) ≡ slot_of (plain_outcome y.now) }
+{
+    Slot::of(x).compare(y.atom, &y.targets, y.number).is_eq()
 }
 
 /// The place of the slot of an outcome, or the place where it is to stand.

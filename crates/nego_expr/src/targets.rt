@@ -71,9 +71,8 @@ impl Targets {
     pub(crate) fn others(&self, n: AtomId) -> AtomSet
         ensures { (m : ℕ) → is_in m result ≡ (nat_lt m 64 && (not (n.0 == m) && list_any (λ target. same_target target (Some m)) self.now)) }
     {
-        let _agents = self.agents;
         let mut atoms = AtomSet::none();
-        for a in 0..16 {
+        for a in 0..self.agents as u32 {
             atoms = with_other(atoms, self.entry(AgentId(a)), n);
         }
         atoms
