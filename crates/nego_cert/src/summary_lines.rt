@@ -143,13 +143,6 @@ pub(crate) fn node_in(nodes: u32, line: &Line) -> Result<Node, Fault>
 
 /// Whether one of the final outcomes has the word as its name.
 fn is_name_of(finals: &[Final], word: &Word) -> bool
-    ensures { result ≡ list_any (λ name. bytes_eq name word.now.text) (map (λ outcome. outcome.name) (map plain_final finals.now)) }
-{
-    any_named(finals, word)
-}
-
-/// Whether a final outcome has the word's bytes as its name.
-fn any_named(finals: &[Final], word: &Word) -> bool
     ensures { result ≡ list_any (λ outcome. bytes_eq outcome.name word.now.text) finals.now }
 {
     finals
