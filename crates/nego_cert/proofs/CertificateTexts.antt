@@ -1,18 +1,15 @@
 -- The certificate that a text spells, or its first fault, from what its lines say.
-use Rattle.std.proofs.Common.{◌≡◌, ℕ, List, [], ◌∷◌, ◌++◌, map, None, Result, Ok, Err, inl, inr, refl, sym, ap, subst, ◌∙◌, arith}
+use Rattle.std.proofs.Common.{◌≡◌, ℕ, List, [], ◌∷◌, ◌++◌, map, None, Result, Ok, Err, refl, sym, ap, subst, ◌∙◌, arith}
 use Rattle.std.specs.Prelude.{IfOk, IfErr}
 use Rattle.std.specs.List.{Contains}
 use Rattle.std.proofs.lemmas.Option.{none-some}
 use Rattle.nego_base.specs.declared.fault.Fault.{Fault}
 use Rattle.nego_base.specs.declared.fault.ReadFaults.{ReadFaults}
 use Rattle.nego_base.specs.declared.fault.ReadFaults.TheVariants as faults
-use Rattle.nego_base.specs.declared.fault.ScanAnswer.{ScanAnswer}
-use Rattle.nego_base.specs.declared.fault.ScanAnswer.TheVariants as scan_answers
 use Rattle.nego_base.specs.declared.line.Line.{Line}
 use Rattle.nego_base.specs.LineGrammar.{Say, behind_rows, IsTextOf, missing_end}
-use Rattle.nego_base.specs.Scan.{scan_fault, scanned, count_lines, ScanHasCause, read_fault_of}
-use Rattle.nego_base.proofs.Cases.{same_Ok}
-use Rattle.nego_base.proofs.LineFaults.{named_again, fault_read, text_read, text_again, fault_once, fault_or_text, fault_else_text}
+use Rattle.nego_base.specs.Scan.{scan_fault, scanned, count_lines}
+use Rattle.nego_base.proofs.LineFaults.{named_again}
 use Rattle.nego_expr.specs.declared.uses.Use.{Use}
 use Rattle.nego_expr.specs.declared.uses.Use.TheVariants as the_uses
 use Rattle.nego_cert.specs.declared.cert.Cert.{Cert}
@@ -22,10 +19,11 @@ use Rattle.nego_cert.specs.declared.row.Kind.TheVariants as kinds
 use Rattle.nego_cert.specs.declared.row.Row.{Row}
 use Rattle.nego_cert.specs.declared.row.Row.TheVariants as rows
 use Rattle.nego_cert.specs.Lines.{keyword, followers, kind_of_use, rows_of}
-use Rattle.nego_cert.specs.Table.{certificate_lines, SpellsCertificate, ReadHasCause, SpellsNothing}
+use Rattle.nego_cert.specs.Table.{certificate_lines, SpellsCertificate, IsFirstFault, ReadHasCause, SpellsNothing}
 use Rattle.nego_cert.specs.Reading.{row_in, walk, uses_in, Reads}
-use Rattle.nego_cert.specs.Laws.{TextsSpellOneCertificate, TextsSpellOrHaveAFault, SpelledHaveNoFault, FaultsAreOne}
+use Rattle.nego_cert.specs.TextLaws.{SpellOneOrHaveAFault}
 use Rattle.nego_cert.proofs.CertificateRows.{same_kind, reads}
+use Rattle.nego_cert.proofs.TextSpelling as text_laws
 
 -- ---- the order of lines
 
@@ -81,41 +79,30 @@ uses_of_uses : (lines : List CertLine) → uses_in (map rows.Use lines ++ rows.E
 uses_of_uses [] = refl
 uses_of_uses (line ∷ lines) = ap (λ (ls : List CertLine). line ∷ ls) (uses_of_uses lines)
 
-same_uses : (one two : List CertLine) → rows_of (record { uses = one }) ≡ rows_of (record { uses = two }) → one ≡ two
-same_uses one two h = sym (uses_of_uses one) ∙ (ap uses_in h ∙ uses_of_uses two)
-
 -- ---- a text that spells a certificate
 
-pub text_certificate : (bytes : List ℕ) (said : List Row) → IsTextOf certificate_lines bytes said → SpellsCertificate bytes (record { uses = uses_in said })
-text_certificate bytes said h = subst (IsTextOf certificate_lines bytes) (said_rows (scanned bytes) said h.say h.ends) h
+abbrev said_cert : List Row → Cert
+said_cert said = record { uses = uses_in said }
 
-pub spelled_once : TextsSpellOneCertificate
-spelled_once bytes one two h k =
-    ap (λ (us : List CertLine). record { uses = us })
-    (same_uses one.uses two.uses (same_Ok {E = Fault} (rows_of one) (rows_of two) (sym (text_again certificate_lines row_in reads bytes (rows_of one) h) ∙ text_again certificate_lines row_in reads bytes (rows_of two) k)))
+said_again : (cert : Cert) → said_cert (rows_of cert) ≡ cert
+said_again cert = ap (λ (us : List CertLine). record { uses = us }) (uses_of_uses cert.uses)
 
-pub spelled_sound : SpelledHaveNoFault
-spelled_sound bytes cert fault h k = fault_or_text certificate_lines row_in reads bytes (rows_of cert) fault h k
+whole : (bytes : List ℕ) (said : List Row) → IsTextOf certificate_lines bytes said → said ≡ rows_of (said_cert said)
+whole bytes said h = said_rows (scanned bytes) said h.say h.ends
 
-pub spelled_else_fault : TextsSpellOrHaveAFault
-spelled_else_fault bytes = elim (fault_else_text certificate_lines row_in reads bytes) [
-  | inl text ↦ inl (record { uses = uses_in text.0 }, text_certificate bytes text.0 text.1)
-  | inr fault ↦ inr fault
-]
+pub one_or_fault : SpellOneOrHaveAFault certificate_lines rows_of
+one_or_fault = text_laws.one_or_fault certificate_lines row_in reads rows_of said_cert said_again whole
 
-pub first_fault_once : FaultsAreOne
-first_fault_once = fault_once certificate_lines row_in reads
+pub spelled_once : (bytes : List ℕ) (one two : Cert) → SpellsCertificate bytes one → SpellsCertificate bytes two → one ≡ two
+spelled_once = one_or_fault.once
+
+pub spelled_sound : (bytes : List ℕ) (cert : Cert) (fault : Fault) → SpellsCertificate bytes cert → IsFirstFault bytes fault → ⊥
+spelled_sound = one_or_fault.apart
+
+pub first_fault_once : (bytes : List ℕ) (one two : Fault) → IsFirstFault bytes one → IsFirstFault bytes two → one ≡ two
+first_fault_once = one_or_fault.fault_once
 
 -- ---- the answers of the reader
-
-pub scan_caused : (answer : ScanAnswer) (bytes : List ℕ) → ScanHasCause answer bytes → ReadHasCause (read_fault_of answer) bytes
-scan_caused (scan_answers.Off fault) bytes h = inl h
-scan_caused scan_answers.Memory bytes h = tt
-
--- what is read of the text's lines is what they say
-said_is : (bytes : List ℕ) (lines lines' : List Line) (count : ℕ) → lines' ≡ scanned bytes → count ≡ count_lines bytes → lines ≡ lines' →
-    walk (missing_end (count_lines bytes)) (kinds.Header ∷ []) (scanned bytes) ≡ walk (missing_end count) (kinds.Header ∷ []) lines
-said_is bytes lines lines' count e f g = rw (← f, ← e, ← g) refl
 
 module _ (result : Result Cert ReadFaults) (bytes : List ℕ) (lines lines' : List Line) (count : ℕ) (scans : scan_fault bytes ≡ None) (e : lines' ≡ scanned bytes) (f : count ≡ count_lines bytes) (g : lines ≡ lines') where
   pub walk_caused : Reads result (walk (missing_end count) (kinds.Header ∷ []) lines) → IfErr result (λ e. ReadHasCause e bytes)
@@ -124,7 +111,7 @@ module _ (result : Result Cert ReadFaults) (bytes : List ℕ) (lines lines' : Li
       by_answer : (r : Result Cert ReadFaults) → Reads r (walk (missing_end count) (kinds.Header ∷ []) lines) → IfErr r (λ e. ReadHasCause e bytes)
       by_answer (Ok cert) h = tt
       by_answer (Err faults.Memory) h = tt
-      by_answer (Err (faults.Off fault)) h = fault_read certificate_lines row_in reads bytes fault scans (said_is bytes lines lines' count e f g ∙ h)
+      by_answer (Err (faults.Off fault)) h = text_laws.walk_caused certificate_lines row_in reads bytes lines lines' count scans e f g fault h
 
   pub walk_spelled : Reads result (walk (missing_end count) (kinds.Header ∷ []) lines) → IfOk result (λ cert. SpellsCertificate bytes cert)
   walk_spelled h = by_answer result h
@@ -132,7 +119,7 @@ module _ (result : Result Cert ReadFaults) (bytes : List ℕ) (lines lines' : Li
       by_answer : (r : Result Cert ReadFaults) → Reads r (walk (missing_end count) (kinds.Header ∷ []) lines) → IfOk r (λ cert. SpellsCertificate bytes cert)
       by_answer (Ok cert) h =
           subst (λ (us : List CertLine). SpellsCertificate bytes (record { uses = us })) (sym h.2)
-          (text_certificate bytes h.0 (text_read certificate_lines row_in reads bytes h.0 scans (said_is bytes lines lines' count e f g ∙ h.1)))
+          (text_laws.text_value certificate_lines row_in reads rows_of said_cert said_again whole bytes h.0 (text_laws.walk_spelled certificate_lines row_in reads bytes lines lines' count scans e f g h.0 h.1))
       by_answer (Err e) h = tt
 
 pub is_unspelled : (result : Result Cert ReadFaults) (bytes : List ℕ) → IfErr result (λ e. ReadHasCause e bytes) → IfErr result (λ e. SpellsNothing e bytes)

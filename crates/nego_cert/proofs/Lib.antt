@@ -12,5 +12,6 @@ pub mod SummaryRows
 pub mod SummarySpelling
 pub mod SummaryTexts
 pub mod SummaryWalk
+pub mod TextSpelling
 pub mod UseLines
 pub mod Verdicts

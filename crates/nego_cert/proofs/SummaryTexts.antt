@@ -1,16 +1,14 @@
 -- The summary that a text spells, or its first fault, from what its lines say.
-use Rattle.std.proofs.Common.{◌≡◌, ℕ, ◌+◌, List, [], ◌∷◌, ◌++◌, map, None, Result, Ok, Err, inl, inr, refl, sym, ap, ap₂, subst, ◌∙◌, arith}
+use Rattle.std.proofs.Common.{◌≡◌, ℕ, ◌+◌, List, [], ◌∷◌, ◌++◌, map, None, Result, Ok, Err, refl, sym, ap, ap₂, subst, ◌∙◌, arith}
 use Rattle.std.specs.Prelude.{IfOk, IfErr}
 use Rattle.std.specs.List.{Contains, flat_map}
 use Rattle.std.proofs.lemmas.Option.{none-some}
-use Rattle.nego_base.specs.declared.fault.Fault.{Fault}
 use Rattle.nego_base.specs.declared.fault.ReadFaults.{ReadFaults}
 use Rattle.nego_base.specs.declared.fault.ReadFaults.TheVariants as faults
 use Rattle.nego_base.specs.declared.line.Line.{Line}
 use Rattle.nego_base.specs.LineGrammar.{Say, behind_rows, IsTextOf, missing_end}
 use Rattle.nego_base.specs.Scan.{scan_fault, scanned, count_lines}
-use Rattle.nego_base.proofs.LineFaults.{named_again, fault_read, text_read, text_again, fault_once, fault_or_text, fault_else_text}
-use Rattle.nego_base.proofs.Cases.{same_Ok}
+use Rattle.nego_base.proofs.LineFaults.{named_again}
 use Rattle.nego_model.specs.Expression.{PlainNode}
 use Rattle.nego_model.specs.Summary.{PlainFinal, PlainSummary}
 use Rattle.nego_expr.specs.declared.summary.Summary.{Summary}
@@ -20,9 +18,10 @@ use Rattle.nego_cert.specs.declared.summary_row.SummaryKind.TheVariants as kinds
 use Rattle.nego_cert.specs.SummaryLines.{keyword}
 use Rattle.nego_cert.specs.SummaryTable.{SummaryLine, HeaderLine, NodeLine, FinalLine, EndLine, Known, node_of, final_of, lines_of, summary_lines, SpellsSummary, SummaryHasCause, SpellsNoSummary}
 use Rattle.nego_cert.specs.SummaryReading.{line_in, walk, known_of, nothing_yet, summary_in, ReadsSummary}
-use Rattle.nego_cert.specs.SummaryLaws.{TextsSpellOneSummary, TextsSpellASummaryOrHaveAFault, SpelledSummariesHaveNoFault, SummaryFaultsAreOne}
+use Rattle.nego_cert.specs.TextLaws.{SpellOneOrHaveAFault}
 use Rattle.nego_cert.proofs.SummaryRows.{same_kind}
 use Rattle.nego_cert.proofs.SummarySpelling.{reads}
+use Rattle.nego_cert.proofs.TextSpelling as text_laws
 
 -- ---- the order of lines
 
@@ -89,9 +88,6 @@ said_lines (line ∷ lines) (EndLine ∷ said) h ends = absurd (let e = early ki
 
 -- ---- a text that spells a summary
 
-pub text_summary : (bytes : List ℕ) (said : List SummaryLine) → IsTextOf summary_lines bytes said → SpellsSummary bytes (summary_in said)
-text_summary bytes said h = subst (IsTextOf summary_lines bytes) (said_lines (scanned bytes) said h.say h.ends) h
-
 nodes_of_finals : (finals : List PlainFinal) → nodes_in (map FinalLine finals ++ EndLine ∷ []) ≡ []
 nodes_of_finals [] = refl
 nodes_of_finals (outcome ∷ finals) = nodes_of_finals finals
@@ -112,29 +108,13 @@ finals_of_lines (node ∷ nodes) finals = finals_of_lines nodes finals
 lines_say : (summary : PlainSummary) → summary_in (lines_of summary) ≡ summary
 lines_say summary = ap₂ (λ (ns : List PlainNode) (os : List PlainFinal). record { nodes = ns; finals = os }) (nodes_of_lines summary.nodes summary.finals) (finals_of_lines summary.nodes summary.finals)
 
-pub spelled_once : TextsSpellOneSummary
-spelled_once bytes one two h k =
-    let same : lines_of one ≡ lines_of two =
-    same_Ok {E = Fault} (lines_of one) (lines_of two) (sym (text_again summary_lines line_in reads bytes (lines_of one) h) ∙ text_again summary_lines line_in reads bytes (lines_of two) k) in
-    sym (lines_say one) ∙ (ap summary_in same ∙ lines_say two)
+whole : (bytes : List ℕ) (said : List SummaryLine) → IsTextOf summary_lines bytes said → said ≡ lines_of (summary_in said)
+whole bytes said h = said_lines (scanned bytes) said h.say h.ends
 
-pub spelled_sound : SpelledSummariesHaveNoFault
-spelled_sound bytes summary fault h k = fault_or_text summary_lines line_in reads bytes (lines_of summary) fault h k
-
-pub spelled_else_fault : TextsSpellASummaryOrHaveAFault
-spelled_else_fault bytes = elim (fault_else_text summary_lines line_in reads bytes) [
-  | inl text ↦ inl (summary_in text.0, text_summary bytes text.0 text.1)
-  | inr fault ↦ inr fault
-]
-
-pub first_fault_once : SummaryFaultsAreOne
-first_fault_once = fault_once summary_lines line_in reads
+pub one_or_fault : SpellOneOrHaveAFault summary_lines lines_of
+one_or_fault = text_laws.one_or_fault summary_lines line_in reads lines_of summary_in lines_say whole
 
 -- ---- the answers of the reader
-
-said_is : (bytes : List ℕ) (lines lines' : List Line) (count : ℕ) → lines' ≡ scanned bytes → count ≡ count_lines bytes → lines ≡ lines' →
-    walk (missing_end (count_lines bytes)) at_first (scanned bytes) ≡ walk (missing_end count) at_first lines
-said_is bytes lines lines' count e f g = rw (← f, ← e, ← g) refl
 
 module _ (result : Result Summary ReadFaults) (bytes : List ℕ) (lines lines' : List Line) (count : ℕ) (scans : scan_fault bytes ≡ None) (e : lines' ≡ scanned bytes) (f : count ≡ count_lines bytes) (g : lines ≡ lines') where
   pub walk_caused : ReadsSummary result (walk (missing_end count) at_first lines) → IfErr result (λ e. SummaryHasCause e bytes)
@@ -143,16 +123,16 @@ module _ (result : Result Summary ReadFaults) (bytes : List ℕ) (lines lines' :
       by_answer : (r : Result Summary ReadFaults) → ReadsSummary r (walk (missing_end count) at_first lines) → IfErr r (λ e. SummaryHasCause e bytes)
       by_answer (Ok s) h = tt
       by_answer (Err faults.Memory) h = tt
-      by_answer (Err (faults.Off fault)) h = fault_read summary_lines line_in reads bytes fault scans (said_is bytes lines lines' count e f g ∙ h)
+      by_answer (Err (faults.Off fault)) h = text_laws.walk_caused summary_lines line_in reads bytes lines lines' count scans e f g fault h
 
   pub walk_spelled : ReadsSummary result (walk (missing_end count) at_first lines) → IfOk result (λ s. SpellsSummary bytes (plain_summary s))
   walk_spelled h = by_answer result h
     where
       by_answer : (r : Result Summary ReadFaults) → ReadsSummary r (walk (missing_end count) at_first lines) → IfOk r (λ s. SpellsSummary bytes (plain_summary s))
-      by_answer (Ok s) h = subst (SpellsSummary bytes) (sym h.2) (text_summary bytes h.0 (text_read summary_lines line_in reads bytes h.0 scans (said_is bytes lines lines' count e f g ∙ h.1)))
+      by_answer (Ok s) h = subst (SpellsSummary bytes) (sym h.2) (text_laws.text_value summary_lines line_in reads lines_of summary_in lines_say whole bytes h.0 (text_laws.walk_spelled summary_lines line_in reads bytes lines lines' count scans e f g h.0 h.1))
       by_answer (Err e) h = tt
 
 pub is_unspelled : (result : Result Summary ReadFaults) (bytes : List ℕ) → IfErr result (λ e. SummaryHasCause e bytes) → IfErr result (λ e. SpellsNoSummary e bytes)
 is_unspelled (Ok s) bytes h = tt
 is_unspelled (Err faults.Memory) bytes h = tt
-is_unspelled (Err (faults.Off fault)) bytes h = λ summary spelled. spelled_sound bytes summary fault spelled h
+is_unspelled (Err (faults.Off fault)) bytes h = λ summary spelled. one_or_fault.apart bytes summary fault spelled h

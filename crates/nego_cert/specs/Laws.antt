@@ -1,6 +1,5 @@
 -- The laws of certificates and of their replay.
-use Rattle.std.specs.Prelude.{◌≡◌, ◌↔◌, ◌⊎◌, ℕ, ◌+◌, ◌*◌, ◌≤◌, ◌<◌, List, length, All}
-use Rattle.nego_base.specs.declared.fault.Fault.{Fault}
+use Rattle.std.specs.Prelude.{◌≡◌, ◌↔◌, ℕ, ◌+◌, ◌*◌, ◌≤◌, ◌<◌, List, length, All}
 use Rattle.nego_model.specs.Negotiation.{IsDeterministic}
 use Rattle.nego_model.specs.Diagram.{PlainDiagram, IsDiagram, negotiation_of}
 use Rattle.nego_model.specs.Summary.{PlainSummary, Tells}
@@ -13,26 +12,10 @@ use Rattle.nego_cert.specs.declared.cert.Cert.{Cert}
 use Rattle.nego_cert.specs.declared.cert.CertLine.{CertLine}
 use Rattle.nego_cert.specs.CertificateText.{certificate_text}
 use Rattle.nego_cert.specs.Lines.{uses_of}
-use Rattle.nego_cert.specs.Table.{HasShortNumbers, SpellsCertificate, IsFirstFault}
+use Rattle.nego_cert.specs.Table.{HasShortNumbers, SpellsCertificate}
 use Rattle.nego_cert.specs.Replay.{LeadToSummary, PlainVerdict, Accepted, IsVerdict, uses_on}
 
 -- ---- texts
-
--- A text spells at most one certificate.
-abbrev pub TextsSpellOneCertificate : Type 0
-TextsSpellOneCertificate = (bytes : List ℕ) (one two : Cert) → SpellsCertificate bytes one → SpellsCertificate bytes two → one ≡ two
-
--- Each text spells a certificate or has a first fault.
-abbrev pub TextsSpellOrHaveAFault : Type 0
-TextsSpellOrHaveAFault = (bytes : List ℕ) → ((cert : Cert) × SpellsCertificate bytes cert) ⊎ ((fault : Fault) × IsFirstFault bytes fault)
-
--- It doesn't do both.
-abbrev pub SpelledHaveNoFault : Type 0
-SpelledHaveNoFault = (bytes : List ℕ) (cert : Cert) (fault : Fault) → SpellsCertificate bytes cert → IsFirstFault bytes fault → ⊥
-
--- It has one first fault at most.
-abbrev pub FaultsAreOne : Type 0
-FaultsAreOne = (bytes : List ℕ) (one two : Fault) → IsFirstFault bytes one → IsFirstFault bytes two → one ≡ two
 
 -- The printed text of uses whose numbers have six digits at most spells a certificate of just these uses.
 abbrev pub PrintedAreSpelled : Type 0

@@ -8,3 +8,4 @@ pub mod SummaryLines
 pub mod SummaryReading
 pub mod SummaryTable
 pub mod Table
+pub mod TextLaws

@@ -1,8 +1,6 @@
 -- The laws of the texts of summaries.
-use Rattle.std.specs.Prelude.{◌≡◌, ◌≢◌, ◌⊎◌, ℕ, ◌+◌, ◌*◌, ◌<◌, ◌≤◌, List, length, All, IsTrue}
+use Rattle.std.specs.Prelude.{◌≢◌, ℕ, ◌+◌, ◌*◌, ◌<◌, ◌≤◌, List, length, All, IsTrue}
 use Rattle.std.specs.List.{AllPairs}
-use Rattle.nego_base.specs.declared.fault.Fault.{Fault}
-use Rattle.nego_base.specs.LineGrammar.{IsFirstFaultOf}
 use Rattle.nego_base.specs.Name.{is_name}
 use Rattle.nego_model.specs.Negotiation.{IsDeterministic}
 use Rattle.nego_model.specs.Diagram.{PlainDiagram, IsDiagram, negotiation_of}
@@ -13,25 +11,7 @@ use Rattle.nego_expr.specs.Fresh.{fresh_work}
 use Rattle.nego_expr.specs.SummaryText.{summary_text}
 use Rattle.nego_expr.specs.Use.{PlainUse, most_nodes}
 use Rattle.nego_cert.specs.Replay.{LeadToSummary}
-use Rattle.nego_cert.specs.SummaryTable.{summary_lines, SpellsSummary}
-
--- ---- texts
-
--- A text spells at most one summary.
-abbrev pub TextsSpellOneSummary : Type 0
-TextsSpellOneSummary = (bytes : List ℕ) (one two : PlainSummary) → SpellsSummary bytes one → SpellsSummary bytes two → one ≡ two
-
--- Each text spells a summary or has a first fault.
-abbrev pub TextsSpellASummaryOrHaveAFault : Type 0
-TextsSpellASummaryOrHaveAFault = (bytes : List ℕ) → ((summary : PlainSummary) × SpellsSummary bytes summary) ⊎ ((fault : Fault) × IsFirstFaultOf summary_lines bytes fault)
-
--- It doesn't do both.
-abbrev pub SpelledSummariesHaveNoFault : Type 0
-SpelledSummariesHaveNoFault = (bytes : List ℕ) (summary : PlainSummary) (fault : Fault) → SpellsSummary bytes summary → IsFirstFaultOf summary_lines bytes fault → ⊥
-
--- It has one first fault at most.
-abbrev pub SummaryFaultsAreOne : Type 0
-SummaryFaultsAreOne = (bytes : List ℕ) (one two : Fault) → IsFirstFaultOf summary_lines bytes one → IsFirstFaultOf summary_lines bytes two → one ≡ two
+use Rattle.nego_cert.specs.SummaryTable.{SpellsSummary}
 
 -- ---- printed summaries
 

@@ -1,14 +1,15 @@
 //! Laws of certificates, of their replay and of the texts of summaries. Each function does nothing; its clause is the law.
 
-ghost use Rattle.nego_cert.specs.Laws.{AcceptedTell, FaultsAreOne, LeadingAreAccepted, PrintedAreShort, PrintedAreSpelled, SpelledAreShort, SpelledHaveNoFault, TextsSpellOneCertificate, TextsSpellOrHaveAFault, VerdictsAreOne};
-ghost use Rattle.nego_cert.specs.SummaryLaws.{AcceptedArePrintable, PrintedSummariesAreShort, PrintedSummariesAreSpelled, SpelledSummariesArePrintable, SpelledSummariesHaveNoFault, SummaryFaultsAreOne, TextsSpellASummaryOrHaveAFault, TextsSpellOneSummary};
+ghost use Rattle.nego_cert.specs.Laws.{AcceptedTell, LeadingAreAccepted, PrintedAreShort, PrintedAreSpelled, SpelledAreShort, VerdictsAreOne};
+ghost use Rattle.nego_cert.specs.Lines.{rows_of};
+ghost use Rattle.nego_cert.specs.SummaryLaws.{AcceptedArePrintable, PrintedSummariesAreShort, PrintedSummariesAreSpelled, SpelledSummariesArePrintable};
+ghost use Rattle.nego_cert.specs.SummaryTable.{lines_of, summary_lines};
+ghost use Rattle.nego_cert.specs.Table.{certificate_lines};
+ghost use Rattle.nego_cert.specs.TextLaws.{SpellOneOrHaveAFault};
 
 /// A text spells one certificate or has one first fault, never both.
 pub fn texts_spell_or_have_a_fault()
-    ensures spelled_once { TextsSpellOneCertificate }
-    ensures either { TextsSpellOrHaveAFault }
-    ensures apart { SpelledHaveNoFault }
-    ensures fault_once { FaultsAreOne }
+    ensures { SpellOneOrHaveAFault certificate_lines rows_of }
 {}
 
 /// The printed text of uses spells a certificate of just these uses, where their numbers have six digits at most, as
@@ -41,10 +42,7 @@ pub fn leading_certificates_are_accepted()
 
 /// A text spells one summary or has one first fault, never both.
 pub fn texts_spell_a_summary_or_have_a_fault()
-    ensures spelled_once { TextsSpellOneSummary }
-    ensures either { TextsSpellASummaryOrHaveAFault }
-    ensures apart { SpelledSummariesHaveNoFault }
-    ensures fault_once { SummaryFaultsAreOne }
+    ensures { SpellOneOrHaveAFault summary_lines lines_of }
 {}
 
 /// The printed text of a summary spells it, where it can be printed, as all those can that texts spell. A printed line has at
