@@ -6,7 +6,7 @@ use Rattle.std.proofs.lemmas.List.{get_or-set_same, get_or-set_other}
 use Rattle.std.proofs.lemmas.Option.{same_Some}
 
 -- pairs of one place are the same
-same_place : (count i x j y : ℕ) → x < count → y < count → i * count + x ≡ j * count + y → (i ≡ j) × (x ≡ y)
+pub same_place : (count i x j y : ℕ) → x < count → y < count → i * count + x ≡ j * count + y → (i ≡ j) × (x ≡ y)
 same_place count i x j y p q e =
     let nodes : i ≡ j = sym (div-mul-add i count x p) ∙ ap (λ n. n / count) e ∙ div-mul-add j count y q in
     let starts : i * count ≡ j * count = ap (λ n. n * count) nodes in

@@ -4,5 +4,6 @@ pub mod Places
 pub mod Made
 pub mod Keeping
 pub mod Alike
+pub mod Asking
 pub mod Answering
 pub mod Lent

@@ -6,6 +6,7 @@ use Rattle.nego_model.specs.Joining.{Relation, By}
 use Rattle.nego_model.specs.Expression.{PlainNode, Base, Join, Then, Star, IsNodeList, Means, NodeBases}
 use Rattle.nego_model.specs.Diagram.{relation_of, outcome_table}
 use Rattle.nego_eval.specs.Begun.{IsRowOf, IsBegun}
+use Rattle.nego_eval.specs.Asked.{Asks}
 use Rattle.nego_eval.specs.declared.rows.Pair.{Pair}
 use Rattle.nego_eval.specs.declared.rows.Rows.{Rows}
 use Rattle.nego_eval.specs.declared.frame.Frame.{Frame}
@@ -49,15 +50,33 @@ AreAlike rows later = later ≡ record rows { kept = later.kept }
 abbrev pub rank : Pair → ℕ
 rank pair = pair.node.0 * 1024 + (1023 - pair.start)
 
--- The wanted pair has no row yet, and comes before the other.
+-- The row of the pair asks for the wanted one, which isn't kept yet and comes before it.
 pub record IsWanted (rows : Rows) (pair wanted : Pair) : Type 0 where
   pub there : IsPair rows wanted
   pub vacant : kept_row rows wanted ≡ None
   pub before : rank wanted < rank pair
+  pub asked : Asks (meaning rows) rows.nodes.now.nodes pair wanted
 
 -- A row in the making whose next step is what a child means.
 abbrev pub IsGoing : Rows → Frame → ℕ → Type 0
 IsGoing rows frame child = IsBegun (meaning rows frame.pair.node.0) (meaning rows child) rows.joint frame.pair.start frame.met frame.followed
+
+-- A row in the making whose next step is what a child means, which is a node before its own.
+pub record StepsBy (rows : Rows) (frame : Frame) (child : ℕ) : Type 0 where
+  pub there : IsPair rows frame.pair
+  pub below : child < frame.pair.node.0
+  pub going : IsGoing rows frame child
+
+-- A row in the making of a composition of two nodes.
+pub record IsThrough (rows : Rows) (frame : Frame) (first second : ℕ) : Type 0 where
+  pub node : slice_get rows.nodes.now.nodes frame.pair.node.0 ≡ Some (Then first second)
+  pub below : first < frame.pair.node.0
+  pub steps : StepsBy rows frame second
+
+-- A row in the making of a star of a node.
+pub record IsClosing (rows : Rows) (frame : Frame) (child : ℕ) : Type 0 where
+  pub node : slice_get rows.nodes.now.nodes frame.pair.node.0 ≡ Some (Star child)
+  pub steps : StepsBy rows frame child
 
 -- A row in the making of a node: after its first child that of its second, of a star that of its child.
 abbrev pub IsFrameOf : Rows → Frame → PlainNode → Type 0

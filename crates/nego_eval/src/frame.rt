@@ -5,7 +5,8 @@ ghost use Rattle.nego_data.specs.DataSets.{IsNoneBesides};
 ghost use Rattle.nego_model.specs.Expression.{Join, Then, Star};
 ghost use Rattle.nego_eval.specs.Begun.{IsRowOf};
 ghost use Rattle.nego_eval.specs.Rows.{lacked};
-ghost use Rattle.nego_eval.specs.Frames.{AreRows, IsPair, IsRowAt, IsWanted, IsGoing, IsFrame, meaning, kept_row};
+ghost use Rattle.nego_eval.specs.Asked.{Asks};
+ghost use Rattle.nego_eval.specs.Frames.{AreRows, IsPair, IsRowAt, IsWanted, IsFrame, StepsBy, IsThrough, IsClosing, meaning};
 
 use crate::rows::{Pair, Rows};
 use nego_base::NodeId;
@@ -80,13 +81,9 @@ impl Frame {
     /// there are kept sooner.
     fn through(&mut self, rows: &Rows, first: NodeId, second: NodeId) -> Result<(), Pair>
         requires rows { AreRows rows.now }
-        requires there { IsPair rows.now self.old.pair }
-        requires first { first.0 < self.old.pair.node.0 }
-        requires second { second.0 < self.old.pair.node.0 }
-        requires node { slice_get rows.now.nodes.now.nodes self.old.pair.node.0 ≡ Some (Then first.0 second.0) }
-        requires going { IsGoing rows.now self.old second.0 }
+        requires through { IsThrough rows.now self.old first.0 second.0 }
         ensures pair { self.new.pair ≡ self.old.pair }
-        ensures going { IsGoing rows.now self.new second.0 }
+        ensures steps { StepsBy rows.now self.new second.0 }
         ensures row { OnOk result (IsRowAt rows.now self.old.pair self.new.met) }
         ensures wanted { IfErr result (λ wanted. IsWanted rows.now self.old.pair wanted) }
     {
@@ -106,15 +103,11 @@ impl Frame {
         low: u16,
     ) -> Result<(), Pair>
         requires rows { AreRows rows.now }
-        requires there { IsPair rows.now self.old.pair }
-        requires first { first.0 < self.old.pair.node.0 }
-        requires second { second.0 < self.old.pair.node.0 }
-        requires node { slice_get rows.now.nodes.now.nodes self.old.pair.node.0 ≡ Some (Then first.0 second.0) }
+        requires through { IsThrough rows.now self.old first.0 second.0 }
         requires middle { IsRowOf (meaning rows.now first.0) rows.now.joint self.old.pair.start middle.now }
         requires low { low ≤ 1024 }
-        requires going { IsGoing rows.now self.old second.0 }
         ensures pair { self.new.pair ≡ self.old.pair }
-        ensures going { IsGoing rows.now self.new second.0 }
+        ensures steps { StepsBy rows.now self.new second.0 }
         ensures done { OnOk result (IsNoneBesides (λ e. is_in e middle.now) (λ e. is_in e self.new.followed) low 1024) }
         ensures wanted { IfErr result (λ wanted. IsWanted rows.now self.old.pair wanted) }
     {
@@ -126,81 +119,40 @@ impl Frame {
         Ok(())
     }
 
-    /// Follows a number that the first node relates to the start.
+    /// Follows a number that the first node relates to the start. Where the first node is a star, and the node's own row
+    /// from the number is kept, that row is taken, and all that the star relates to the number is followed at once.
     fn pass(&mut self, rows: &Rows, first: NodeId, second: NodeId, y: u16) -> Result<(), Pair>
         requires rows { AreRows rows.now }
-        requires there { IsPair rows.now self.old.pair }
-        requires first { first.0 < self.old.pair.node.0 }
-        requires second { second.0 < self.old.pair.node.0 }
-        requires node { slice_get rows.now.nodes.now.nodes self.old.pair.node.0 ≡ Some (Then first.0 second.0) }
+        requires through { IsThrough rows.now self.old first.0 second.0 }
         requires start { y < rows.now.joint }
         requires between { meaning rows.now first.0 self.old.pair.start y }
         requires fresh { is_in y self.old.followed ≡ false }
-        requires going { IsGoing rows.now self.old second.0 }
         ensures pair { self.new.pair ≡ self.old.pair }
-        ensures going { IsGoing rows.now self.new second.0 }
+        ensures steps { StepsBy rows.now self.new second.0 }
         ensures followed { OnOk result (is_in y self.new.followed ≡ true) }
         ensures grows { OnOk result ((e : ℕ) → is_in e self.old.followed ≡ true → is_in e self.new.followed ≡ true) }
         ensures wanted { IfErr result (λ wanted. IsWanted rows.now self.old.pair wanted) }
     {
+        let node = self.pair.node;
+        let start = y;
         if let Some(Node::Star(_)) = rows.nodes.get(first) {
-            return self.leap(rows, first, second, y);
+            if let Ok(whole) = rows.find(Pair { node, start }) {
+                if let Ok(closed) = rows.find(Pair { node: first, start }) {
+                    self.met.add(whole);
+                    self.followed.add(closed);
+                    return Ok(());
+                }
+            }
         }
         self.follow(rows, second, y)
-    }
-
-    /// Follows a number that a star relates to the start, where the second node comes after the star: the node's own row
-    /// from there is taken where it is kept, and all that the star relates to the number is followed at once. The rows of
-    /// greater starts are asked for first.
-    fn leap(&mut self, rows: &Rows, star: NodeId, second: NodeId, y: u16) -> Result<(), Pair>
-        requires rows { AreRows rows.now }
-        requires there { IsPair rows.now self.old.pair }
-        requires first { star.0 < self.old.pair.node.0 }
-        requires second { second.0 < self.old.pair.node.0 }
-        requires node { slice_get rows.now.nodes.now.nodes self.old.pair.node.0 ≡ Some (Then star.0 second.0) }
-        requires star { (child : ℕ) × (slice_get rows.now.nodes.now.nodes star.0 ≡ Some (Star child)) }
-        requires start { y < rows.now.joint }
-        requires between { meaning rows.now star.0 self.old.pair.start y }
-        requires fresh { is_in y self.old.followed ≡ false }
-        requires going { IsGoing rows.now self.old second.0 }
-        ensures pair { self.new.pair ≡ self.old.pair }
-        ensures going { IsGoing rows.now self.new second.0 }
-        ensures followed { OnOk result (is_in y self.new.followed ≡ true) }
-        ensures grows { OnOk result ((e : ℕ) → is_in e self.old.followed ≡ true → is_in e self.new.followed ≡ true) }
-        ensures wanted { IfErr result (λ wanted. IsWanted rows.now self.old.pair wanted) }
-    {
-        let other = Pair {
-            node: self.pair.node,
-            start: y,
-        };
-        match rows.find(other) {
-            Ok(whole) => {
-                let closed = rows.find(Pair {
-                    node: star,
-                    start: y,
-                })?;
-                self.met.add(whole);
-                self.followed.add(closed);
-                Ok(())
-            }
-            Err(wanted) => {
-                if self.pair.start < y {
-                    return Err(wanted);
-                }
-                self.follow(rows, second, y)
-            }
-        }
     }
 
     /// What the node relates any number of times. Each number is followed once.
     fn close(&mut self, rows: &Rows, child: NodeId) -> Result<(), Pair>
         requires rows { AreRows rows.now }
-        requires there { IsPair rows.now self.old.pair }
-        requires child { child.0 < self.old.pair.node.0 }
-        requires node { slice_get rows.now.nodes.now.nodes self.old.pair.node.0 ≡ Some (Star child.0) }
-        requires going { IsGoing rows.now self.old child.0 }
+        requires closing { IsClosing rows.now self.old child.0 }
         ensures pair { self.new.pair ≡ self.old.pair }
-        ensures going { IsGoing rows.now self.new child.0 }
+        ensures steps { StepsBy rows.now self.new child.0 }
         ensures row { OnOk result (IsRowAt rows.now self.old.pair self.new.met) }
         ensures wanted { IfErr result (λ wanted. IsWanted rows.now self.old.pair wanted) }
     {
@@ -226,14 +178,11 @@ impl Frame {
     /// rows of greater starts are asked for first, so that most of a row is taken from others.
     fn step(&mut self, rows: &Rows, child: NodeId, y: u16) -> Result<(), Pair>
         requires rows { AreRows rows.now }
-        requires there { IsPair rows.now self.old.pair }
-        requires child { child.0 < self.old.pair.node.0 }
-        requires node { slice_get rows.now.nodes.now.nodes self.old.pair.node.0 ≡ Some (Star child.0) }
-        requires going { IsGoing rows.now self.old child.0 }
+        requires closing { IsClosing rows.now self.old child.0 }
         requires met { is_in y self.old.met ≡ true }
         requires fresh { is_in y self.old.followed ≡ false }
         ensures pair { self.new.pair ≡ self.old.pair }
-        ensures going { IsGoing rows.now self.new child.0 }
+        ensures steps { StepsBy rows.now self.new child.0 }
         ensures grows { (e : ℕ) → is_in e self.old.met ≡ true → is_in e self.new.met ≡ true }
         ensures fewer { OnOk result (lacked self.new.followed < lacked self.old.followed) }
         ensures wanted { IfErr result (λ wanted. IsWanted rows.now self.old.pair wanted) }
@@ -261,14 +210,13 @@ impl Frame {
     /// Follows a number by the next step: all that the child relates to it is met.
     fn follow(&mut self, rows: &Rows, child: NodeId, y: u16) -> Result<(), Pair>
         requires rows { AreRows rows.now }
-        requires there { IsPair rows.now self.old.pair }
-        requires child { child.0 < self.old.pair.node.0 }
+        requires steps { StepsBy rows.now self.old child.0 }
         requires start { y < rows.now.joint }
         requires fresh { is_in y self.old.followed ≡ false }
         requires sound { (e : ℕ) → meaning rows.now child.0 y e → meaning rows.now self.old.pair.node.0 self.old.pair.start e }
-        requires going { IsGoing rows.now self.old child.0 }
+        requires asks { Asks (meaning rows.now) rows.now.nodes.now.nodes self.old.pair (record { node = child; start = y }) }
         ensures pair { self.new.pair ≡ self.old.pair }
-        ensures going { IsGoing rows.now self.new child.0 }
+        ensures steps { StepsBy rows.now self.new child.0 }
         ensures grows { (e : ℕ) → is_in e self.old.met ≡ true → is_in e self.new.met ≡ true }
         ensures followed { OnOk result ((e : ℕ) → is_in e self.new.followed ≡ (y == e || is_in e self.old.followed)) }
         ensures fewer { OnOk result (lacked self.new.followed < lacked self.old.followed) }

@@ -1,9 +1,10 @@
 //! The making of rows: what is still to be made stands on a list of its own.
-ghost use Rattle.std.specs.Prelude.{◌≡◌, ◌<◌, length, All, IfOk, OnOk, IsSome, ⊤};
+ghost use Rattle.std.specs.Prelude.{◌≡◌, ◌<◌, List, length, All, IfOk, OnOk, IsSome, ⊤};
+ghost use Rattle.std.specs.List.{Contains};
 ghost use Rattle.nego_model.specs.Expression.{IsNodeList, NodeBases};
 ghost use Rattle.nego_eval.specs.Kept.{open_places};
 ghost use Rattle.nego_eval.specs.Frames.{AreAlike, IsPair, IsFrame, kept_row};
-ghost use Rattle.nego_eval.specs.Making.{AreMaking};
+ghost use Rattle.nego_eval.specs.Making.{AreMaking, AreAsked, IsAskedOf};
 
 use crate::frame::Frame;
 use crate::rows::{Pair, Rows};
@@ -44,6 +45,7 @@ impl<'a> Making<'a> {
         ensures alike { AreAlike self.old.rows self.new.rows }
         ensures making { OnOk result (AreMaking self.new) }
         ensures kept { OnOk result (IsSome (kept_row self.new.rows pair)) }
+        ensures asked { OnOk result ((roots : List Pair) → Contains roots pair → AreAsked roots self.old → AreAsked roots self.new) }
     {
         while !self.rows.has(pair) {
             let frame = self.next(pair);
@@ -59,8 +61,10 @@ impl<'a> Making<'a> {
         requires vacant { kept_row self.old.rows pair ≡ None }
         ensures rows { self.new.rows ≡ self.old.rows }
         ensures making { AreMaking self.new }
+        ensures asked { (roots : List Pair) → AreAsked roots self.old → AreAsked roots self.new }
         ensures frame { IsFrame self.old.rows result }
         ensures vacant { kept_row self.old.rows result.pair ≡ None }
+        ensures wanted { (roots : List Pair) → Contains roots pair → AreAsked roots self.old → IsAskedOf self.old.rows roots result.pair }
     {
         while let Some(frame) = self.waiting.pop() {
             if !self.rows.has(frame.pair) {
@@ -78,6 +82,7 @@ impl<'a> Making<'a> {
         ensures alike { AreAlike self.old.rows self.new.rows }
         ensures making { OnOk result (AreMaking self.new) }
         ensures fewer { OnOk result (open_places self.new.rows.kept < open_places self.old.rows.kept) }
+        ensures asked { OnOk result ((roots : List Pair) → AreAsked roots self.old → IsAskedOf self.old.rows roots first.pair → AreAsked roots self.new) }
     {
         let mut frame = first;
         while let Err(wanted) = frame.advance(&self.rows) {

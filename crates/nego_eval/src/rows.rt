@@ -1,5 +1,5 @@
 //! The rows of a summary's nodes.
-ghost use Rattle.std.specs.Prelude.{◌≡◌, ℕ, ◌<◌, length, map, All, IfOk, OnOk, IfErr, OnErr, IsTrue, is_some, IsSome, ⊤};
+ghost use Rattle.std.specs.Prelude.{◌≡◌, ◌⊎◌, ℕ, ◌<◌, length, map, All, IfOk, OnOk, IfErr, OnErr, IsTrue, is_some, IsSome, ⊤};
 ghost use Rattle.std.specs.List.{range_with_len};
 ghost use Rattle.nego_data.specs.Data.{data_count};
 ghost use Rattle.nego_base.specs.Members.{is_in};
@@ -104,6 +104,7 @@ impl<'a> Rows<'a> {
         ensures alike { AreAlike self.old self.new }
         ensures rows { OnOk result (AreRows self.new) }
         ensures fewer { OnOk result (open_places self.new.kept < open_places self.old.kept) }
+        ensures only { OnOk result ((other : Pair) → IsPair self.old other → IsSome (kept_row self.new other) → IsSome (kept_row self.old other) ⊎ (other ≡ pair)) }
     {
         let place = self.place(pair);
         self.kept.keep(place, row)

@@ -1,4 +1,4 @@
-use Rattle.std.proofs.Common.{sym, ◌∙◌, arith, rules}
+use Rattle.std.proofs.Common.{◌≡◌, Some, slice_get, sym, ◌∙◌, arith, rules}
 use Rattle.nego_model.specs.Joining.{By}
 use Rattle.nego_model.specs.Expression.{Join, Then, Star}
 use Rattle.nego_model.specs.Diagram.{relation_of}
@@ -11,20 +11,25 @@ join-requires-clause-one c = c.requires.rows.nodes c.args.self.now.pair.node.0 (
 pub join-requires-clause-two : goal.join-requires-clause-two
 join-requires-clause-two c = c.requires.rows.nodes c.args.self.now.pair.node.0 (Join c.in-Some-Join.one.0 c.in-Some-Join.two.0) (search rules) 1 0 (omega arith)
 
-pub through-requires-clause-first : goal.through-requires-clause-first
-through-requires-clause-first c = c.requires.rows.nodes c.args.self.now.pair.node.0 (Then c.in-Some-Then.first.0 c.in-Some-Then.second.0) (search rules) 0 0 (omega arith)
+pub through-requires-clause-through : goal.through-requires-clause-through
+through-requires-clause-through c =
+    let node = Then c.in-Some-Then.first.0 c.in-Some-Then.second.0 in
+    let here : slice_get c.args.rows.now.nodes.now.nodes c.args.self.now.pair.node.0 ≡ Some node = search rules in
+    let below = c.requires.rows.nodes c.args.self.now.pair.node.0 node here in
+    record {
+      node = here;
+      below = below 0 0 (omega arith);
+      steps = record { there = c.requires.frame.there; below = below 1 0 (omega arith); going = c.requires.frame.going node here };
+    }
 
-pub through-requires-clause-second : goal.through-requires-clause-second
-through-requires-clause-second c = c.requires.rows.nodes c.args.self.now.pair.node.0 (Then c.in-Some-Then.first.0 c.in-Some-Then.second.0) (search rules) 1 0 (omega arith)
-
-pub through-requires-clause-going : goal.through-requires-clause-going
-through-requires-clause-going c = c.requires.frame.going (Then c.in-Some-Then.first.0 c.in-Some-Then.second.0) (search rules)
-
-pub close-requires-clause-child : goal.close-requires-clause-child
-close-requires-clause-child c = c.requires.rows.nodes c.args.self.now.pair.node.0 (Star c.in-Some-Star.child.0) (search rules) 0 0 (omega arith)
-
-pub close-requires-clause-going : goal.close-requires-clause-going
-close-requires-clause-going c = c.requires.frame.going (Star c.in-Some-Star.child.0) (search rules)
+pub close-requires-clause-closing : goal.close-requires-clause-closing
+close-requires-clause-closing c =
+    let node = Star c.in-Some-Star.child.0 in
+    let here : slice_get c.args.rows.now.nodes.now.nodes c.args.self.now.pair.node.0 ≡ Some node = search rules in
+    record {
+      node = here;
+      steps = record { there = c.requires.frame.there; below = c.requires.rows.nodes c.args.self.now.pair.node.0 node here 0 0 (omega arith); going = c.requires.frame.going node here };
+    }
 
 pub returns-in-Some-Base-clause-row : goal.returns-in-Some-Base-clause-row
 returns-in-Some-Base-clause-row c =

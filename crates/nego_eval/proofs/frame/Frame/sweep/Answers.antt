@@ -15,7 +15,7 @@ loop-y-preserved c =
     let found = c.in-Some.ensures in
     record {
       pair = c.pass.ensures.pair ∙ c.loop-y.invariant.pair;
-      going = c.pass.ensures.going;
+      steps = c.pass.ensures.steps;
       bound = let below = found.below in omega (arith, below);
       done = followed_more c.args.middle.now c.loop-y.self.followed c.pass.new.self.followed c.args.low c.loop-y.from c.in-Some.y c.loop-y.invariant.done found c.in_ok-pass.ensures.followed c.in_ok-pass.ensures.grows;
     }

@@ -1,5 +1,6 @@
-use Rattle.std.proofs.Common.{◌≡◌, None}
-use Rattle.nego_eval.specs.Making.{AreMaking}
+use Rattle.std.proofs.Common.{◌≡◌, List, None}
+use Rattle.nego_eval.specs.declared.rows.Pair.{Pair}
+use Rattle.nego_eval.specs.Making.{AreMaking, AreAsked, IsAskedOf}
 use Rattle.nego_eval.specs.Frames.{IsFrame, kept_row, rank}
 use Rattle.nego_eval.proofs.making.Making.finish.Given as goal
 
@@ -10,6 +11,7 @@ invariant-loop-wanted l = record {
   making : AreMaking l.self;
   frame : IsFrame l.self.rows l.frame;
   vacant : kept_row l.self.rows l.frame.pair ≡ None;
+  asked : (roots : List Pair) → AreAsked roots l.initial.self → IsAskedOf l.initial.self.rows roots l.initial.frame.pair → AreAsked roots l.self × IsAskedOf l.self.rows roots l.frame.pair;
 }
 
 abbrev pub decreases-loop-wanted : goal.decreases-loop-wanted

@@ -1,10 +1,13 @@
-use Rattle.std.proofs.Common.{◌≡◌, ◌<◌, ◌+◌, ◌*◌, length, set, slice_index_or, Some, None, sym, ap, ◌∙◌}
-use Rattle.std.proofs.lemmas.List.{length-set}
+use Rattle.std.proofs.Common.{◌≡◌, ◌⊎◌, ℕ, ◌<◌, ◌+◌, ◌*◌, length, set, slice_index_or, Some, None, inl, inr, sym, subst, ap, ap₂, ◌∙◌}
+use Rattle.std.specs.Prelude.{IsSome}
+use Rattle.std.proofs.lemmas.Bool.{cases_eq}
+use Rattle.std.proofs.lemmas.List.{length-set, get_or-set_other}
 use Rattle.nego_base.proofs.OptionLaws.{then_ok}
 use Rattle.nego_eval.specs.Kept.{open_places}
-use Rattle.nego_eval.specs.Frames.{AreRows, meaning}
+use Rattle.nego_eval.specs.declared.rows.Pair.{Pair}
+use Rattle.nego_eval.specs.Frames.{AreRows, IsPair, meaning, kept_row}
 use Rattle.nego_eval.specs.Begun.{IsRowOf}
-use Rattle.nego_eval.proofs.Keeping.{place_below, each_kept}
+use Rattle.nego_eval.proofs.Keeping.{same_place, place_below, each_kept}
 use Rattle.nego_eval.proofs.Places.{keep-fewer_open}
 use Rattle.nego_eval.proofs.rows.Rows.keep.Goals as goal
 
@@ -40,4 +43,20 @@ returns-clause-fewer c =
     (λ after.
     let kept : c.keep.new.self ≡ set old.kept place (Some c.args.row) = after ∙ ap (λ n. set old.kept n (Some c.args.row)) c.place-place.ensures in
     rw kept (keep-fewer_open old.kept place c.args.row here c.requires.vacant))
+    c.keep.ensures
+
+pub returns-clause-only : goal.returns-clause-only
+returns-clause-only c =
+    let old = c.args.self.now in
+    let pair = c.args.pair in
+    let place = pair.node.0 * old.joint + pair.start in
+    let P : ℕ → ℕ → Pair = λ n x. record { node = record { 0 = n }; start = x } in
+    then_ok c.keep.result (c.keep.new.self ≡ set old.kept c.place-place.result (Some c.args.row)) ((other : Pair) → IsPair old other → IsSome (kept_row (record old { kept = c.keep.new.self }) other) → IsSome (kept_row old other) ⊎ (other ≡ pair))
+    (λ after other there found.
+    let kept : c.keep.new.self ≡ set old.kept place (Some c.args.row) = after ∙ ap (λ n. set old.kept n (Some c.args.row)) c.place-place.ensures in
+    let at = other.node.0 * old.joint + other.start in
+    elim (cases_eq at place) [
+      | inl same ↦ let e = same_place old.joint other.node.0 other.start pair.node.0 pair.start there.start c.requires.there.start same in inr (ap₂ P e.0 e.1)
+      | inr differ ↦ inl (subst IsSome (ap (λ ks. slice_index_or ks at None) kept ∙ get_or-set_other old.kept place at (Some c.args.row) None differ) found)
+    ])
     c.keep.ensures
