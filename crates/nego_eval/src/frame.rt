@@ -1,5 +1,5 @@
 //! Rows in the making.
-ghost use Rattle.std.specs.Prelude.{◌≡◌, ℕ, ◌<◌, ◌≤◌, ◌||◌, ◌==◌, false, true, slice_get, Some, MatchOption, IfErr, OnOk};
+ghost use Rattle.std.specs.Prelude.{◌≡◌, ℕ, ◌<◌, ◌≤◌, ◌||◌, ◌==◌, false, true, slice_get, Some, MatchOption, IfErr, IfSome, OnOk};
 ghost use Rattle.nego_base.specs.Members.{is_in};
 ghost use Rattle.nego_data.specs.DataSets.{IsNoneBesides};
 ghost use Rattle.nego_model.specs.Expression.{Join, Then, Star};
@@ -77,8 +77,7 @@ impl Frame {
         Ok(())
     }
 
-    /// What the first node relates, and then the second. The numbers from the start on come first, since the rows from
-    /// there are kept sooner.
+    /// What the first node relates, and then the second.
     fn through(&mut self, rows: &Rows, first: NodeId, second: NodeId) -> Result<(), Pair>
         requires rows { AreRows rows.now }
         requires through { IsThrough rows.now self.old first.0 second.0 }
@@ -89,49 +88,71 @@ impl Frame {
     {
         let start = self.pair.start;
         let middle = rows.find(Pair { node: first, start })?;
-        self.sweep(rows, first, second, middle, start)?;
-        self.sweep(rows, first, second, middle, 0)
-    }
-
-    /// Follows all from a number on that the first node relates to the start.
-    fn sweep(
-        &mut self,
-        rows: &Rows,
-        first: NodeId,
-        second: NodeId,
-        middle: &DataSet,
-        low: u16,
-    ) -> Result<(), Pair>
-        requires rows { AreRows rows.now }
-        requires through { IsThrough rows.now self.old first.0 second.0 }
-        requires middle { IsRowOf (meaning rows.now first.0) rows.now.joint self.old.pair.start middle.now }
-        requires low { low ≤ 1024 }
-        ensures pair { self.new.pair ≡ self.old.pair }
-        ensures steps { StepsBy rows.now self.new second.0 }
-        ensures done { OnOk result (IsNoneBesides (λ e. is_in e middle.now) (λ e. is_in e self.new.followed) low 1024) }
-        ensures wanted { IfErr result (λ wanted. IsWanted rows.now self.old.pair wanted) }
-    {
-        let mut from = low;
-        while let Some(y) = middle.least_besides(&self.followed, from) {
-            self.pass(rows, first, second, y)?;
-            from = y + 1;
+        self.take_kept(rows, first, second, middle);
+        while let Some(y) = self.left_of(middle) {
+            self.follow(rows, second, y)?;
         }
         Ok(())
     }
 
-    /// Follows a number that the first node relates to the start. Where the first node is a star, and the node's own row
-    /// from the number is kept, that row is taken, and all that the star relates to the number is followed at once.
-    fn pass(&mut self, rows: &Rows, first: NodeId, second: NodeId, y: u16) -> Result<(), Pair>
+    /// Takes the node's own rows that are kept, where nothing was followed yet.
+    fn take_kept(&mut self, rows: &Rows, first: NodeId, second: NodeId, middle: &DataSet)
+        requires rows { AreRows rows.now }
+        requires through { IsThrough rows.now self.old first.0 second.0 }
+        requires middle { IsRowOf (meaning rows.now first.0) rows.now.joint self.old.pair.start middle.now }
+        ensures pair { self.new.pair ≡ self.old.pair }
+        ensures through { IsThrough rows.now self.new first.0 second.0 }
+    {
+        if self.is_new() {
+            self.take_from(rows, first, second, middle);
+            self.take_before(rows, first, second, middle);
+        }
+    }
+
+    /// Whether nothing was followed yet.
+    fn is_new(&self) -> bool {
+        self.followed.least_besides(&DataSet::none(), 0).is_none()
+    }
+
+    /// Takes the node's own rows that are kept from the numbers between, from the start on: the first has most of the others.
+    fn take_from(&mut self, rows: &Rows, first: NodeId, second: NodeId, middle: &DataSet)
+        requires rows { AreRows rows.now }
+        requires through { IsThrough rows.now self.old first.0 second.0 }
+        requires middle { IsRowOf (meaning rows.now first.0) rows.now.joint self.old.pair.start middle.now }
+        ensures pair { self.new.pair ≡ self.old.pair }
+        ensures through { IsThrough rows.now self.new first.0 second.0 }
+    {
+        let mut from = self.pair.start;
+        while let Some(y) = middle.least_besides(&self.followed, from) {
+            self.take(rows, first, second, y);
+            from = y + 1;
+        }
+    }
+
+    /// The same of the numbers before the start, from the last to the first.
+    fn take_before(&mut self, rows: &Rows, first: NodeId, second: NodeId, middle: &DataSet)
+        requires rows { AreRows rows.now }
+        requires through { IsThrough rows.now self.old first.0 second.0 }
+        requires middle { IsRowOf (meaning rows.now first.0) rows.now.joint self.old.pair.start middle.now }
+        ensures pair { self.new.pair ≡ self.old.pair }
+        ensures through { IsThrough rows.now self.new first.0 second.0 }
+    {
+        let mut end = self.pair.start;
+        while let Some(y) = last_besides(middle, &self.followed, 0, end) {
+            self.take(rows, first, second, y);
+            end = y;
+        }
+    }
+
+    /// Where the first node is a star, and the node's own row from a number is kept, takes that row, and follows all that
+    /// the star relates to the number at once.
+    fn take(&mut self, rows: &Rows, first: NodeId, second: NodeId, y: u16)
         requires rows { AreRows rows.now }
         requires through { IsThrough rows.now self.old first.0 second.0 }
         requires start { y < rows.now.joint }
         requires between { meaning rows.now first.0 self.old.pair.start y }
-        requires fresh { is_in y self.old.followed ≡ false }
         ensures pair { self.new.pair ≡ self.old.pair }
-        ensures steps { StepsBy rows.now self.new second.0 }
-        ensures followed { OnOk result (is_in y self.new.followed ≡ true) }
-        ensures grows { OnOk result ((e : ℕ) → is_in e self.old.followed ≡ true → is_in e self.new.followed ≡ true) }
-        ensures wanted { IfErr result (λ wanted. IsWanted rows.now self.old.pair wanted) }
+        ensures through { IsThrough rows.now self.new first.0 second.0 }
     {
         let node = self.pair.node;
         let start = y;
@@ -140,11 +161,21 @@ impl Frame {
                 if let Ok(closed) = rows.find(Pair { node: first, start }) {
                     self.met.add(whole);
                     self.followed.add(closed);
-                    return Ok(());
                 }
             }
         }
-        self.follow(rows, second, y)
+    }
+
+    /// A number that wasn't followed: the last from the start on, or the first before it. So rows from which later ones may
+    /// take most are made first, where a loop counts up or down.
+    fn left_of(&self, middle: &DataSet) -> Option<u16>
+        requires { self.now.pair.start ≤ 1024 }
+        ensures { MatchOption result (IsNoneBesides (λ e. is_in e middle.now) (λ e. is_in e self.now.followed) 0 1024) (λ y. (is_in y middle.now ≡ true) × (is_in y self.now.followed ≡ false)) }
+    {
+        if let Some(y) = last_besides(middle, &self.followed, self.pair.start, 1024) {
+            return Some(y);
+        }
+        middle.least_besides(&self.followed, 0)
     }
 
     /// What the node relates any number of times. Each number is followed once.
@@ -230,4 +261,39 @@ impl Frame {
         self.followed.insert(y);
         Ok(())
     }
+}
+
+/// A number from one on and below an end that is in the set and not in the other. It is the last: each search halves what
+/// is left.
+fn last_besides(set: &DataSet, other: &DataSet, from: u16, end: u16) -> Option<u16>
+    requires { end ≤ 1024 }
+    ensures within { IfSome result (λ y. is_in y set.now ≡ true) }
+    ensures without { IfSome result (λ y. is_in y other.now ≡ false) }
+    ensures below { IfSome result (λ y. y < end) }
+{
+    let mut last = None;
+    let mut low = from;
+    let mut high = end;
+    while low < high {
+        let mid = low + (high - low) / 2;
+        match found_below(set, other, mid, high) {
+            Some(y) => {
+                last = Some(y);
+                low = y + 1;
+            }
+            None => high = mid,
+        }
+    }
+    last
+}
+
+/// The least number from one on that is in the set and not in the other, where it is below an end.
+fn found_below(set: &DataSet, other: &DataSet, from: u16, end: u16) -> Option<u16>
+    requires { from ≤ 1024 }
+    ensures within { IfSome result (λ y. is_in y set.now ≡ true) }
+    ensures without { IfSome result (λ y. is_in y other.now ≡ false) }
+    ensures range { IfSome result (λ y. (from ≤ y) × (y < end)) }
+{
+    let y = set.least_besides(other, from)?;
+    if y < end { Some(y) } else { None }
 }
