@@ -88,14 +88,15 @@ impl Frame {
     {
         let start = self.pair.start;
         let middle = rows.find(Pair { node: first, start })?;
+        let is_loop = is_star(rows, first);
         self.take_kept(rows, first, second, middle);
-        while let Some(y) = self.left_of(middle) {
+        while let Some(y) = self.left_of(middle, is_loop) {
             self.follow(rows, second, y)?;
         }
         Ok(())
     }
 
-    /// Takes the node's own rows that are kept, where nothing was followed yet.
+    /// Takes the node's own rows that are kept, where the first node is a star and nothing was followed yet.
     fn take_kept(&mut self, rows: &Rows, first: NodeId, second: NodeId, middle: &DataSet)
         requires rows { AreRows rows.now }
         requires through { IsThrough rows.now self.old first.0 second.0 }
@@ -103,7 +104,7 @@ impl Frame {
         ensures pair { self.new.pair ≡ self.old.pair }
         ensures through { IsThrough rows.now self.new first.0 second.0 }
     {
-        if self.is_new() {
+        if is_star(rows, first) && self.is_new() {
             self.take_from(rows, first, second, middle);
             self.take_before(rows, first, second, middle);
         }
@@ -166,14 +167,16 @@ impl Frame {
         }
     }
 
-    /// A number that wasn't followed: the last from the start on, or the first before it. So rows from which later ones may
-    /// take most are made first, where a loop counts up or down.
-    fn left_of(&self, middle: &DataSet) -> Option<u16>
+    /// A number that wasn't followed. Behind a loop it is the last from the start on, or the first before it: so rows from
+    /// which later ones may take most are made first, where the loop counts up or down.
+    fn left_of(&self, middle: &DataSet, is_loop: bool) -> Option<u16>
         requires { self.now.pair.start ≤ 1024 }
         ensures { MatchOption result (IsNoneBesides (λ e. is_in e middle.now) (λ e. is_in e self.now.followed) 0 1024) (λ y. (is_in y middle.now ≡ true) × (is_in y self.now.followed ≡ false)) }
     {
-        if let Some(y) = last_besides(middle, &self.followed, self.pair.start, 1024) {
-            return Some(y);
+        if is_loop {
+            if let Some(y) = last_besides(middle, &self.followed, self.pair.start, 1024) {
+                return Some(y);
+            }
         }
         middle.least_besides(&self.followed, 0)
     }
@@ -261,6 +264,11 @@ impl Frame {
         self.followed.insert(y);
         Ok(())
     }
+}
+
+/// Whether the node is a star.
+fn is_star(rows: &Rows, node: NodeId) -> bool {
+    matches!(rows.nodes.get(node), Some(Node::Star(_)))
 }
 
 /// A number from one on and below an end that is in the set and not in the other. It is the last: each search halves what
