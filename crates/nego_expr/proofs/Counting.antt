@@ -87,10 +87,6 @@ module _ (ns old new : List ℕ) (n : ℕ) (are : AreCountsOf ns old) where
   pub counts-remove : (i : ℕ) → slice_get ns i ≡ Some n → ((m : ℕ) → slice_index old m ≡ slice_index new m + cond (n == m) 1 0) → AreCountsOf (remove ns i) new
   counts-remove i e h m = same_rest (slice_index new m) (length (equals m (remove ns i))) (cond (n == m) 1 0) (sym (h m) ∙ (are m ∙ length-less m n i ns e))
 
-  -- with none
-  pub counts-clear : ((m : ℕ) → slice_index new m ≡ cond (n == m) 0 (slice_index old m)) → AreCountsOf (without_member n ns) new
-  counts-clear h m = h m ∙ (ap (cond (n == m) 0) (are m) ∙ sym (length-without m n ns))
-
 -- the atoms whose count is one, where one atom has another count
 pub ones-set : (old : List ℕ) (n count : ℕ) (ones more : List ℕ) → n < length old → AreOnes old ones → ((m : ℕ) → is_in m more ≡ cond (n == m) (count == 1) (is_in m ones)) → AreOnes (set old n count) more
 ones-set old n count ones more within are h m = h m ∙ ⊎_elim

@@ -2,6 +2,7 @@ pub mod AddedNodes
 pub mod Alive
 pub mod BaseNodes
 pub mod Counting
+pub mod DroppedAtoms
 pub mod EditCalls
 pub mod EditedWorks
 pub mod Entries

@@ -7,7 +7,7 @@ use Rattle.std.proofs.lemmas.List.Elements.{All-contains, All-map, All-head, All
 use Rattle.std.proofs.lemmas.Option.{none-some}
 use Rattle.std.proofs.lemmas.Simd.{map-map}
 use Rattle.nego_base.specs.Members.{RisesFrom, IsRising}
-use Rattle.nego_expr.specs.Edits.{with_outcome, with_nodes_at}
+use Rattle.nego_expr.specs.Edits.{with_outcome}
 use Rattle.nego_expr.specs.Sorted.{PlainSlot, slot_of, member, without_targets, AreSlotsOf, AreMembersOf, IsNextOf}
 use Rattle.nego_expr.specs.Work.{WorkOutcome, outcome_among}
 use Rattle.nego_expr.proofs.Alive.{each_found}
@@ -15,7 +15,7 @@ use Rattle.nego_expr.proofs.EditCalls.{only_found}
 use Rattle.nego_expr.proofs.NodesAt.{of_atom}
 use Rattle.nego_expr.proofs.Places.{filter-seen, numbers_above}
 use Rattle.nego_expr.proofs.RisingLists.{Contains-head, Contains-tail, Contains-cases, Contains-nil, Contains-filter}
-use Rattle.nego_expr.proofs.SlotsOf.{slots-add, slots-without, slots-without_atom, slot-found, unused_slot, slots-with_nodes_at}
+use Rattle.nego_expr.proofs.SlotsOf.{slots-add, slots-without, slot-found, unused_slot}
 use Rattle.nego_expr.proofs.WorkEdits.{numbers_of, All-found, found_cases, rises-passing}
 
 -- ---- outcomes without targets
@@ -54,12 +54,6 @@ pub unused_member : (outcomes : List WorkOutcome) (numbers : ℕ) → All (λ x.
 unused_member outcomes numbers used slots are y e c =
     unused_slot (map without_targets outcomes) numbers (All-map (λ x. x.number < numbers) without_targets outcomes used) slots are (slot_of y) e c
 
--- without those of an atom
-pub members-without_atom : (n : ℕ) (outcomes : List WorkOutcome) (old new : List PlainSlot) → AreMembersOf outcomes old → ((slot : PlainSlot) → Contains new slot ↔ (Contains old slot × (slot.atom ≢ n))) →
-    AreMembersOf (filter (λ x. not (x.atom == n)) outcomes) new
-members-without_atom n outcomes old new are h =
-    subst (λ zs. AreSlotsOf zs new) (sym (filter-seen without_targets (λ x. not (x.atom == n)) outcomes)) (slots-without_atom n (map without_targets outcomes) old new are h)
-
 module _ (outcomes : List WorkOutcome) (rise : IsRising (numbers_of outcomes)) (o : ℕ) (x : WorkOutcome) (there : outcome_among outcomes o ≡ Some x) where
   -- an outcome that is found has one of them
   pub member-found : (y : WorkOutcome) → y ≡ without_targets x → (slots : List PlainSlot) → AreMembersOf outcomes slots → Contains slots (slot_of y)
@@ -88,17 +82,6 @@ module _ (outcomes : List WorkOutcome) (rise : IsRising (numbers_of outcomes)) (
       same : (zs : List WorkOutcome) → All (λ z. z.number ≡ o → z ≡ x) zs → map member_of (with_outcome y zs) ≡ map member_of zs
       same [] h = refl
       same (z ∷ zs) h = ap₂ ◌∷◌ (one z (All-head (λ w. w.number ≡ o → w ≡ x) z zs h)) (same zs (All-tail (λ w. w.number ≡ o → w ≡ x) z zs h))
-
--- with other nodes they are the same
-pub members-with_nodes_at : (n i : ℕ) (outcomes : List WorkOutcome) (slots : List PlainSlot) → AreMembersOf outcomes slots → AreMembersOf (with_nodes_at n i outcomes) slots
-members-with_nodes_at n i outcomes slots are =
-    subst (λ l. (slot : PlainSlot) → Contains slots slot ↔ Contains l slot) (seen outcomes ∙ (sym same ∙ sym (seen (with_nodes_at n i outcomes)))) are
-  where
-    by_slot : PlainSlot → PlainSlot
-    by_slot s = member s.atom s.outcome
-
-    same : map member_of (with_nodes_at n i outcomes) ≡ map member_of outcomes
-    same = sym (map-map by_slot slot_of (with_nodes_at n i outcomes)) ∙ (ap (map by_slot) (slots-with_nodes_at n i outcomes) ∙ map-map by_slot slot_of outcomes)
 
 -- ---- the next of an atom
 

@@ -1,5 +1,5 @@
 -- Laws of outcomes of which those of one atom have new nodes.
-use Rattle.std.proofs.Common.{◌≡◌, ◌≢◌, ⊎_elim, ℕ, suc, ◌+◌, Bool, true, false, ◌==◌, cond, List, [], ◌∷◌, ◌++◌, length, slice_get, Some, refl, sym, subst, ap, ap₂, ◌∙◌, arith, eq-eqb, ne_eqb, add-zero}
+use Rattle.std.proofs.Common.{◌≡◌, ◌≢◌, ⊎_elim, ℕ, suc, ◌+◌, Bool, true, false, ◌==◌, cond, List, [], ◌∷◌, ◌++◌, slice_get, Some, refl, sym, subst, ap, ap₂, ◌∙◌, arith, eq-eqb, ne_eqb, add-zero}
 use Rattle.std.proofs.lemmas.Bool.{cond-true, cond-false, cases_eq}
 use Rattle.std.proofs.lemmas.Option.{none-some}
 use Rattle.nego_model.specs.Expression.{Then}
@@ -124,38 +124,6 @@ All-with_nodes_at P n i (y ∷ ys) h g = ⊎_elim
   where
     Other : WorkOutcome → Type 0
     Other x = x.atom ≢ n → P x
-
--- of outcomes and then others, the others' nodes come behind those of the first
-pub with_nodes_at-append : (n i : ℕ) (done rest : List WorkOutcome) → with_nodes_at n i (done ++ rest) ≡ with_nodes_at n i done ++ with_nodes_at n (i + length (of_atom n done)) rest
-with_nodes_at-append n i [] rest = ap (λ j. with_nodes_at n j rest) (sym (add-zero i))
-with_nodes_at-append n i (y ∷ ys) rest = ⊎_elim
-    (λ e.
-    let l : length (of_atom n (y ∷ ys)) ≡ suc (length (of_atom n ys)) = ap length (own_of n y ys e) in
-    let s : i + 1 + length (of_atom n ys) ≡ i + length (of_atom n (y ∷ ys)) = omega (arith, l) in
-    own_first n i y (ys ++ rest) e
-    ∙ (ap (◌∷◌ (with_node i y)) (with_nodes_at-append n (i + 1) ys rest ∙ ap (λ j. with_nodes_at n (i + 1) ys ++ with_nodes_at n j rest) s)
-    ∙ ap (λ zs. zs ++ with_nodes_at n (i + length (of_atom n (y ∷ ys))) rest) (sym (own_first n i y ys e))))
-    (λ e.
-    let l : i + length (of_atom n ys) ≡ i + length (of_atom n (y ∷ ys)) = ap (λ zs. i + length zs) (sym (other_of n y ys e)) in
-    other_first n i y (ys ++ rest) e
-    ∙ (ap (◌∷◌ y) (with_nodes_at-append n i ys rest ∙ ap (λ j. with_nodes_at n i ys ++ with_nodes_at n j rest) l)
-    ∙ ap (λ zs. zs ++ with_nodes_at n (i + length (of_atom n (y ∷ ys))) rest) (sym (other_first n i y ys e))))
-    (cases_eq y.atom n)
-
--- one outcome more is of the atom, or isn't
-pub of_atom-push : (n : ℕ) (zs : List WorkOutcome) (y : WorkOutcome) → y.atom ≡ n → of_atom n (zs ++ y ∷ []) ≡ of_atom n zs ++ y ∷ []
-of_atom-push n [] y e = own_of n y [] e
-of_atom-push n (z ∷ zs) y e = ⊎_elim
-    (λ k. own_of n z (zs ++ y ∷ []) k ∙ (ap (◌∷◌ z) (of_atom-push n zs y e) ∙ ap (λ ws. ws ++ y ∷ []) (sym (own_of n z zs k))))
-    (λ k. other_of n z (zs ++ y ∷ []) k ∙ (of_atom-push n zs y e ∙ ap (λ ws. ws ++ y ∷ []) (sym (other_of n z zs k))))
-    (cases_eq z.atom n)
-
-pub of_atom-pass : (n : ℕ) (zs : List WorkOutcome) (y : WorkOutcome) → y.atom ≢ n → of_atom n (zs ++ y ∷ []) ≡ of_atom n zs
-of_atom-pass n [] y e = other_of n y [] e
-of_atom-pass n (z ∷ zs) y e = ⊎_elim
-    (λ k. own_of n z (zs ++ y ∷ []) k ∙ (ap (◌∷◌ z) (of_atom-pass n zs y e) ∙ sym (own_of n z zs k)))
-    (λ k. other_of n z (zs ++ y ∷ []) k ∙ (of_atom-pass n zs y e ∙ sym (other_of n z zs k)))
-    (cases_eq z.atom n)
 
 -- a node for one outcome more
 pub nodes_then-push : (x : ℕ) (zs : List WorkOutcome) (y : WorkOutcome) → nodes_then x (zs ++ y ∷ []) ≡ nodes_then x zs ++ Then x y.node ∷ []

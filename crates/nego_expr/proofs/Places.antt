@@ -51,7 +51,7 @@ lower_first x xs i y h e =
     ne_eqb x.number y.number (λ q. let no_more : ⊥ = omega (arith, above, q) in no_more)
 
 -- a change at a place is a change of the outcome of its number
-set-place : (change : WorkOutcome → WorkOutcome) (low : ℕ) (ys : List WorkOutcome) (i : ℕ) (y : WorkOutcome) → RisesFrom low (numbers_of ys) → slice_get ys i ≡ Some y →
+pub set-place : (change : WorkOutcome → WorkOutcome) (low : ℕ) (ys : List WorkOutcome) (i : ℕ) (y : WorkOutcome) → RisesFrom low (numbers_of ys) → slice_get ys i ≡ Some y →
     set ys i (change y) ≡ map (λ x. cond (x.number == y.number) (change x) x) ys
 set-place change low [] i y h e = absurd (let l : i < 0 = slice_get_within [] i y e in omega (arith, l))
 set-place change low (x ∷ xs) zero y h e =

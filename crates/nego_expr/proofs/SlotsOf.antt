@@ -1,13 +1,12 @@
 -- The slots of alive outcomes after an edit.
-use Rattle.std.proofs.Common.{◌≡◌, ◌≢◌, ◌↔◌, ◌⊎◌, inl, inr, ⊎_elim, ℕ, ◌+◌, ◌<◌, ◌==◌, not, cond, Bool, true, false, List, [], ◌∷◌, ◌++◌, map, Some, refl, sym, subst, ap, ◌∙◌, arith, eq-eqb, ne_eqb}
+use Rattle.std.proofs.Common.{◌≡◌, ◌≢◌, ◌↔◌, ◌⊎◌, inl, inr, ⊎_elim, ℕ, ◌<◌, ◌==◌, not, cond, Bool, true, false, List, [], ◌∷◌, ◌++◌, map, Some, refl, sym, subst, ap, ◌∙◌, arith, eq-eqb, ne_eqb}
 use Rattle.std.specs.List.{All, Contains, filter}
 use Rattle.std.proofs.lemmas.Bool.{eqb-false, not-true, not_from_false}
 use Rattle.std.proofs.lemmas.List.{map-append}
-use Rattle.std.proofs.lemmas.Simd.{map-map}
 use Rattle.std.proofs.lemmas.List.Elements.{All-contains, All-map, All-weaker, Contains-append_left, Contains-push, Contains-push_cases}
 use Rattle.std.proofs.lemmas.Option.{none-some}
 use Rattle.nego_base.specs.Members.{IsRising}
-use Rattle.nego_expr.specs.Edits.{with_outcome, with_nodes_at}
+use Rattle.nego_expr.specs.Edits.{with_outcome}
 use Rattle.nego_expr.specs.Sorted.{PlainSlot, slot_of, AreSlotsOf}
 use Rattle.nego_expr.specs.Work.{WorkOutcome, outcome_among}
 use Rattle.nego_expr.proofs.EditCalls.{only_found}
@@ -41,15 +40,6 @@ slots-filter test outcomes old are slot =
     let k = Contains-filter test (map slot_of outcomes) slot in (
       λ c. let q = k.0 (subst (λ l. Contains l slot) (filter-seen slot_of test outcomes) c) in ((are slot).1 q.0, q.1),
       λ c. subst (λ l. Contains l slot) (sym (filter-seen slot_of test outcomes)) (k.1 ((are slot).0 c.0, c.1)),
-    )
-
--- without those of an atom
-pub slots-without_atom : (n : ℕ) (outcomes : List WorkOutcome) (old new : List PlainSlot) → AreSlotsOf outcomes old → ((slot : PlainSlot) → Contains new slot ↔ (Contains old slot × (slot.atom ≢ n))) →
-    AreSlotsOf (filter (λ x. not (x.atom == n)) outcomes) new
-slots-without_atom n outcomes old new are h slot =
-    let k = slots-filter (λ s. not (s.atom == n)) outcomes old are slot in (
-      λ c. let q = (h slot).0 c in k.1 (q.0, not_from_false (slot.atom == n) (ne_eqb slot.atom n q.1)),
-      λ c. let q = k.0 c in (h slot).1 (q.0, eqb-false slot.atom n (not-true (slot.atom == n) q.1)),
     )
 
 module _ (outcomes : List WorkOutcome) (rise : IsRising (numbers_of outcomes)) (o : ℕ) (x : WorkOutcome) (found : outcome_among outcomes o ≡ Some x) (old : List PlainSlot) (are : AreSlotsOf outcomes old) where
@@ -123,18 +113,3 @@ module _ (outcomes : List WorkOutcome) (rise : IsRising (numbers_of outcomes)) (
           (λ k. subst (λ b. Contains (slot_of (cond b y z) ∷ map slot_of (with_outcome y zs)) (slot_of y)) (sym (eq-eqb z.number y.number k.0)) (Contains-head (slot_of y) (map slot_of (with_outcome y zs))))
           (λ k. Contains-tail (slot_of (now z)) (map slot_of (with_outcome y zs)) (slot_of y) (with_itself zs k.1))
           (found_cases z zs y.number x e)
-
--- with other nodes they are the same
-pub slots-with_nodes_at : (n i : ℕ) (outcomes : List WorkOutcome) → map slot_of (with_nodes_at n i outcomes) ≡ map slot_of outcomes
-slots-with_nodes_at n i [] = refl
-slots-with_nodes_at n i (x ∷ xs) = go (x.atom == n) (slots-with_nodes_at n (i + 1) xs) (slots-with_nodes_at n i xs)
-  where
-    go : (b : Bool) → map slot_of (with_nodes_at n (i + 1) xs) ≡ map slot_of xs → map slot_of (with_nodes_at n i xs) ≡ map slot_of xs →
-        map slot_of (cond b (record x { node = i } ∷ with_nodes_at n (i + 1) xs) (x ∷ with_nodes_at n i xs)) ≡ slot_of x ∷ map slot_of xs
-    go true h k = ap (◌∷◌ (slot_of x)) h
-    go false h k = ap (◌∷◌ (slot_of x)) k
-
--- and so are the atoms
-pub atoms-with_nodes_at : (n i : ℕ) (outcomes : List WorkOutcome) → map (λ x. x.atom) (with_nodes_at n i outcomes) ≡ map (λ x. x.atom) outcomes
-atoms-with_nodes_at n i outcomes =
-    sym (map-map (λ s. s.atom) slot_of (with_nodes_at n i outcomes)) ∙ (ap (map (λ s. s.atom)) (slots-with_nodes_at n i outcomes) ∙ map-map (λ s. s.atom) slot_of outcomes)

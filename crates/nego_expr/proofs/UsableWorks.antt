@@ -1,16 +1,14 @@
 -- Works in memory: the atoms that are left with their parties, and alive outcomes after an edit.
-use Rattle.std.proofs.Common.{◌≡◌, ◌≢◌, ⊎_elim, ℕ, ◌+◌, ◌<◌, ◌≤◌, ◌==◌, not, cond, Bool, true, false, Option, List, [], ◌∷◌, ◌++◌, length, map, slice_index_or, IsTrue, refl, sym, subst, ap, ◌∙◌, arith, eq-eqb, ne_eqb}
+use Rattle.std.proofs.Common.{◌≡◌, ⊎_elim, ℕ, ◌+◌, ◌<◌, ◌≤◌, ◌==◌, not, cond, Bool, true, false, Option, List, [], ◌∷◌, ◌++◌, length, map, slice_index_or, IsTrue, refl, sym, subst, ap, ◌∙◌, arith, eq-eqb, ne_eqb}
 use Rattle.std.specs.List.{All, filter}
 use Rattle.std.proofs.lemmas.Bool.{cond-true, cond-false, cases_eq}
 use Rattle.std.proofs.lemmas.List.Elements.{All-nil, All-cons, All-head, All-tail, All-filter, All-append, All-weaker}
-use Rattle.std.proofs.lemmas.List.{map-append, length-append, length-map}
+use Rattle.std.proofs.lemmas.List.{map-append, length-map}
 use Rattle.std.specs.Prelude.{slice_index}
-use Rattle.std.proofs.lemmas.Option.{slice_get_within}
-use Rattle.nego_model.specs.Expression.{PlainNode}
 use Rattle.nego_base.specs.Members.{is_in, without_member, RisesFrom, IsRising}
 use Rattle.nego_base.proofs.Members.{is_in_none, is_in-cases, rises-append, All-member}
 use Rattle.nego_expr.specs.Work.{WorkOutcome, parties_among}
-use Rattle.nego_expr.specs.Edits.{with_outcome, nodes_then, with_nodes_at}
+use Rattle.nego_expr.specs.Edits.{with_outcome}
 use Rattle.nego_expr.specs.Room.{RoomyNodes, RoomyWork}
 use Rattle.nego_expr.specs.Sorted.{PlainSlot, AreMembersOf, AreSlotsOf}
 use Rattle.nego_expr.specs.WorkView.{atom_among, atom_number, plain_outcome, roomy_work, AreAlive, IsUsable}
@@ -18,10 +16,8 @@ use Rattle.nego_expr.specs.Counts.{AreCountsOf, AreEntriesOf}
 use Rattle.nego_base.specs.Room.{WithRoom}
 use Rattle.nego_expr.specs.declared.outcome.Outcome.{Outcome}
 use Rattle.nego_expr.specs.declared.work.Work.TheInside.{Inside}
-use Rattle.nego_expr.proofs.WorkEdits.{numbers_of, with_node, All-at_place, rises-passing, numbers-with_outcome, All-with_outcome}
-use Rattle.nego_expr.proofs.AddedNodes.{length-nodes_then}
+use Rattle.nego_expr.proofs.WorkEdits.{numbers_of, rises-passing, numbers-with_outcome, All-with_outcome}
 use Rattle.nego_expr.proofs.Counting.{equals, length-equals}
-use Rattle.nego_expr.proofs.NodesAt.{of_atom, numbers-with_nodes_at, All-with_nodes_at}
 
 module _ (parties : List (List ℕ)) where
   -- the atoms have the numbers of those that are left
@@ -108,26 +104,6 @@ module _ (agents numbers nodes : ℕ) (outcomes : List WorkOutcome) (ok : AreAli
 
       single : (P : WorkOutcome → Type 0) → P new → All P (new ∷ [])
       single P h = All-cons P new [] h (All-nil P)
-
--- outcomes are alive ones where those of an atom have new nodes
-pub alive-then_each : (agents numbers x n : ℕ) (nodes : List PlainNode) (outcomes : List WorkOutcome) → AreAlive agents numbers (length nodes) outcomes →
-    AreAlive agents numbers (length (nodes ++ nodes_then x (of_atom n outcomes))) (with_nodes_at n (length nodes) outcomes)
-alive-then_each agents numbers x n nodes outcomes ok = record {
-  rising = subst IsRising (sym (numbers-with_nodes_at n (length nodes) outcomes)) ok.rising;
-  used = each (λ y. y.number < numbers) (λ i y h. h) ok.used;
-  fit = each (λ y. length y.targets ≡ agents) (λ i y h. h) ok.fit;
-  there = All-with_nodes_at (λ y. y.node < length (nodes ++ nodes_then x (of_atom n outcomes))) n (length nodes) outcomes
-      (All-weaker (λ y. y.node < length nodes) (λ y. y.atom ≢ n → y.node < length (nodes ++ nodes_then x (of_atom n outcomes))) (λ y h other. let l : y.node < length nodes = h in omega (arith, l, as_many)) outcomes ok.there)
-      (λ k y e. omega (arith, as_many, slice_get_within (of_atom n outcomes) k y e));
-}
-  where
-    as_many : length (nodes ++ nodes_then x (of_atom n outcomes)) ≡ length nodes + length (of_atom n outcomes)
-    as_many = length-append nodes (nodes_then x (of_atom n outcomes)) ∙ ap (λ l. length nodes + l) (length-nodes_then x (of_atom n outcomes))
-
-    -- what reads no node
-    each : (P : WorkOutcome → Type 0) → ((i : ℕ) (y : WorkOutcome) → P y → P (with_node i y)) → All P outcomes → All P (with_nodes_at n (length nodes) outcomes)
-    each P r h = All-with_nodes_at P n (length nodes) outcomes (All-weaker P (λ y. y.atom ≢ n → P y) (λ y p other. p) outcomes h)
-        (λ k y e. r (length nodes + k) y (All-at_place P (of_atom n outcomes) k y (All-filter (λ z. z.atom == n) P outcomes h) e))
 
 -- with more room they may be used too
 pub roomier : (w : Inside) (nodes : RoomyNodes) (outcomes : WithRoom Outcome) (slots members : WithRoom PlainSlot) → nodes.nodes ≡ w.nodes.nodes → outcomes.items ≡ w.outcomes.items → slots.items ≡ w.slots.items → members.items ≡ w.members.items → IsUsable w →

@@ -71,15 +71,6 @@ impl Counts {
         self.ones = ones_with(self.ones, n, count);
     }
 
-    /// None is of the atom any more.
-    pub(crate) fn clear(&mut self, n: AtomId)
-        requires { n.0 < 64 }
-        ensures { (m : ℕ) → slice_index self.new m ≡ (if n.0 == m then 0 else slice_index self.old m) }
-    {
-        self.counts[n.0 as usize] = 0;
-        self.ones = ones_with(self.ones, n, 0);
-    }
-
     /// One more is of each of the atoms.
     pub(crate) fn add_each(&mut self, atoms: AtomSet)
         requires { (m : ℕ) → IsTrue (is_in m atoms) → slice_index self.old m < 4294967295 }

@@ -1,16 +1,14 @@
 //! The edits of a work. None takes memory, and each is safe after any other: the rules make their effects of them.
 ghost use Rattle.std.specs.Prelude.{◌≡◌, ◌==◌, ◌+◌, ◌-◌, ◌<◌, ◌≤◌, ◌++◌, ◌∷◌, [], All, filter, not, IsTrue, IsSome, Some, length, map, option_map, slice_get, slice_set};
 ghost use Rattle.nego_base.specs.Members.{is_in};
-ghost use Rattle.nego_model.specs.Expression.{Then, children};
-ghost use Rattle.nego_expr.specs.Counts.{AreEntriesOf};
+ghost use Rattle.nego_model.specs.Expression.{children};
 ghost use Rattle.nego_expr.specs.Work.{outcome_at, outcomes_at};
-ghost use Rattle.nego_expr.specs.Edits.{nodes_then, then_each, with_nodes_at, with_outcome, without_atom, without_outcome};
+ghost use Rattle.nego_expr.specs.Edits.{then_each, with_outcome, without_atom, without_outcome};
 ghost use Rattle.nego_expr.specs.NodeView.{plain_node};
 ghost use Rattle.nego_expr.specs.WorkView.{plain_outcome};
 
-use crate::counts::Counts;
 use crate::work::place_of;
-use crate::{Node, Nodes, Outcome, Targets, Work};
+use crate::{Node, Outcome, Targets, Work};
 use nego_base::{AtomId, AtomSet, NodeId, OutcomeId, Reserved};
 
 impl Work {
@@ -110,12 +108,20 @@ impl Work {
         ensures plain { self.new.plain ≡ without_atom n.0 self.old.plain }
         ensures kept { (self.old.spare_nodes ≤ self.new.spare_nodes) × (self.old.spare_outcomes ≤ self.new.spare_outcomes) }
     {
+        self.leave(n);
+        while let Some(x) = self.next_of(n, OutcomeId(0)) {
+            let o = x.number;
+            self.drop_outcome(o);
+        }
+    }
+
+    /// Takes an atom away, and none of its outcomes.
+    fn leave(&mut self, n: AtomId)
+        requires left { IsTrue (is_in n.0 (map (λ atom. atom.number) self.old.plain.atoms)) }
+        ensures plain { self.new.plain ≡ record self.old.plain { atoms = filter (λ atom. not (atom.number == n.0)) self.old.plain.atoms } }
+        ensures kept { (self.old.spare_nodes ≤ self.new.spare_nodes) × (self.old.spare_outcomes ≤ self.new.spare_outcomes) }
+    {
         self.left = self.left.without(n);
-        remove_entries(&mut self.entries, self.outcomes.as_slice(), n);
-        self.outcomes.retain(|x| x.atom != n);
-        self.slots.remove_atom(n);
-        self.counts.clear(n);
-        self.members.remove_atom(n);
     }
 
     /// Makes an atom that is left the first.
@@ -135,59 +141,36 @@ impl Work {
         ensures spare { self.new.spare_nodes + length (outcomes_at self.old.plain n.0) ≡ self.old.spare_nodes }
         ensures kept { self.old.spare_outcomes ≤ self.new.spare_outcomes }
     {
-        then_each(&mut self.nodes, &mut self.outcomes, x, n);
-    }
-}
-
-/// Takes away what the outcomes of the atom count for.
-fn remove_entries(entries: &mut Counts, outcomes: &[Outcome], n: AtomId)
-    requires { AreEntriesOf (map plain_outcome outcomes.now) entries.old }
-    ensures { AreEntriesOf (filter (λ x. not (x.atom == n.0)) (map plain_outcome outcomes.now)) entries.new }
-{
-    for x in outcomes {
-        if x.atom == n {
-            entries.remove_each(x.entered());
+        let mut from = OutcomeId(0);
+        while let Some(y) = self.next_of(n, from) {
+            let (o, own) = (y.number, y.node);
+            let node = self.add_node(Node::Then(x, own));
+            self.set_node(o, node);
+            from = OutcomeId(o.0 + 1);
         }
     }
-}
 
-/// Each outcome of the atom has a new node, which is the node x and then its own.
-fn then_each(nodes: &mut Nodes, outcomes: &mut Reserved<Outcome>, x: NodeId, n: AtomId)
-    requires spare { length (filter (λ z. z.atom == n.0) (map plain_outcome outcomes.old.items)) ≤ nodes.old.room }
-    requires there { x.0 < length nodes.old.nodes }
-    requires older { All (λ z. z.node < length nodes.old.nodes) (map plain_outcome outcomes.old.items) }
-    ensures nodes { nodes.new.nodes ≡ nodes.old.nodes ++ nodes_then x.0 (filter (λ z. z.atom == n.0) (map plain_outcome outcomes.old.items)) }
-    ensures outcomes { map plain_outcome outcomes.new.items ≡ with_nodes_at n.0 (length nodes.old.nodes) (map plain_outcome outcomes.old.items) }
-    ensures spare { nodes.new.room + length (filter (λ z. z.atom == n.0) (map plain_outcome outcomes.old.items)) ≡ nodes.old.room }
-    ensures room { outcomes.new.room ≡ outcomes.old.room }
-{
-    for i in 0..outcomes.len() {
-        if is_at(outcomes.as_slice(), i, n) {
-            then_at(nodes, outcomes, x, i);
-        }
+    /// Gives an alive outcome another node.
+    fn set_node(&mut self, o: OutcomeId, node: NodeId)
+        requires alive { IsSome (outcome_at self.old.plain o.0) }
+        requires there { node.0 < length self.old.plain.nodes }
+        ensures plain { Some self.new.plain ≡ option_map (λ x. record self.old.plain {
+          outcomes = with_outcome (record x { node = node.0 }) self.old.plain.outcomes;
+        }) (outcome_at self.old.plain o.0) }
+        ensures nodes { self.new.spare_nodes ≡ self.old.spare_nodes }
+        ensures kept { self.old.spare_outcomes ≤ self.new.spare_outcomes }
+    {
+        let i = place_of(self.outcomes.as_slice(), o).unwrap();
+        put_node(&mut self.outcomes, i, node);
     }
 }
 
-/// Whether the outcome at a place is of the atom.
-fn is_at(outcomes: &[Outcome], i: usize, n: AtomId) -> bool
-    requires { i < length outcomes.now }
-    ensures { option_map (λ z. z.atom == n.0) (slice_get (map plain_outcome outcomes.now) i) ≡ Some result }
-{
-    outcomes[i].atom == n
-}
-
-/// The outcome at a place has a new node, which is the node x and then its own.
-fn then_at(nodes: &mut Nodes, outcomes: &mut Reserved<Outcome>, x: NodeId, i: usize)
-    requires spare { 0 < nodes.old.room }
-    requires there { x.0 < length nodes.old.nodes }
-    requires place { i < length outcomes.old.items }
-    requires older { All (λ z. z.node < length nodes.old.nodes) (map plain_outcome outcomes.old.items) }
-    ensures nodes { option_map (λ y. nodes.old.nodes ++ Then x.0 y.node ∷ []) (slice_get (map plain_outcome outcomes.old.items) i) ≡ Some nodes.new.nodes }
-    ensures outcomes { option_map (λ y. slice_set (map plain_outcome outcomes.old.items) i (record y { node = length nodes.old.nodes }))
+/// Gives the outcome at a place another node.
+fn put_node(outcomes: &mut Reserved<Outcome>, i: usize, node: NodeId)
+    requires { i < length outcomes.old.items }
+    ensures outcomes { option_map (λ y. slice_set (map plain_outcome outcomes.old.items) i (record y { node = node.0 }))
         (slice_get (map plain_outcome outcomes.old.items) i) ≡ Some (map plain_outcome outcomes.new.items) }
-    ensures nodes_room { nodes.new.room ≡ nodes.old.room - 1 }
     ensures room { outcomes.new.room ≡ outcomes.old.room }
 {
-    let outcome = outcomes.get_mut(i).unwrap();
-    outcome.node = nodes.push(Node::Then(x, outcome.node));
+    outcomes.get_mut(i).unwrap().node = node;
 }

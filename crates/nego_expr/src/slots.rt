@@ -141,14 +141,6 @@ impl Slots {
         }
     }
 
-    /// Takes the slots of an atom away.
-    pub(crate) fn remove_atom(&mut self, n: AtomId)
-        ensures items { (slot : PlainSlot) → Contains self.new.items slot ↔ (Contains self.old.items slot × (slot.atom ≢ n.0)) }
-        ensures room { self.old.room ≤ self.new.room }
-    {
-        self.slots.retain(|s| s.atom != n);
-    }
-
     /// Of slots without targets: the least number of those of the atom that isn't below this one.
     pub(crate) fn next_of(&self, n: AtomId, from: OutcomeId) -> Option<OutcomeId>
         requires { All (λ s. s.targets ≡ []) self.now.items }

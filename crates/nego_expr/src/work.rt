@@ -4,7 +4,7 @@ ghost use Rattle.nego_base.specs.Members.{is_in, IsRising};
 ghost use Rattle.nego_expr.specs.Sorted.{plain_slot, IsSorted};
 ghost use Rattle.nego_expr.specs.Use.{leads_in};
 ghost use Rattle.nego_expr.specs.Work.{outcome_at, outcome_among, outcomes_at, sent_to, work_parties};
-ghost use Rattle.nego_expr.specs.WorkView.{plain_outcome};
+ghost use Rattle.nego_expr.specs.WorkView.{plain_outcome, AreAlive};
 
 use crate::counts::Counts;
 use crate::slots::Slots;
@@ -150,6 +150,7 @@ impl Work {
     pub fn next_of(&self, n: AtomId, from: OutcomeId) -> Option<&Outcome>
         ensures value { option_map (λ x. plain_outcome x.now) result ≡ find (λ x. not (nat_lt x.number from.0)) (outcomes_at self.now.plain n.0) }
         ensures bound { IfSome result (λ x. x.now.number.0 < 4294967295) }
+        ensures alive { AreAlive self.now.plain.agents self.now.plain.numbers (length self.now.plain.nodes) self.now.plain.outcomes }
     {
         let o = self.members.next_of(n, from)?;
         self.outcome(o)
