@@ -83,8 +83,10 @@ impl Work {
             passed,
         };
         self.slots.replace(old, &new);
-        self.entries.remove_each(old.entered());
-        self.entries.add_each(new.entered());
+        let before = old.entered();
+        let after = new.entered();
+        self.entries.remove_each(before.difference(after));
+        self.entries.add_each(after.difference(before));
         self.outcomes.set(i, new);
     }
 

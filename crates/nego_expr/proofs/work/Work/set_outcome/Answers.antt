@@ -1,4 +1,8 @@
-use Rattle.std.proofs.Common.{◌≡◌, ◌≢◌, ◌↔◌, ◌⊎◌, ◌<◌, ℕ, List, arith, refl, Option, Some, length, map, option_map, slice_get, slice_index_or, sym, subst, ap, IfSome, ◌∙◌}
+use Rattle.std.specs.Prelude.{slice_index}
+use Rattle.std.proofs.lemmas.Bool.{and_parts}
+use Rattle.nego_base.specs.Members.{is_in}
+use Rattle.nego_base.proofs.Members.{is_in-difference}
+use Rattle.std.proofs.Common.{not, cond, IsTrue, ◌+◌, ◌≡◌, ◌≢◌, ◌↔◌, ◌⊎◌, ◌<◌, ℕ, List, arith, refl, Option, Some, length, map, option_map, slice_get, slice_index_or, sym, subst, ap, IfSome, ◌∙◌}
 use Rattle.std.proofs.Math.Seq.{map-set_same}
 use Rattle.std.proofs.lemmas.List.{map-set}
 use Rattle.std.proofs.lemmas.Option.{slice_get-map, slice_get_read}
@@ -65,13 +69,16 @@ pub remove_each-requires : goal.remove_each-requires
 remove_each-requires c m in_old =
     let w = c.self.inside in
     let b = (goal.at.remove_each-requires c).After-index-outcomes-i in
-    entries_some (old b) c.entered.result c.entered.ensures (map plain_outcome w.outcomes.items) w.entries c.self.invariant.entered b.unwrap-i.result (at b) m in_old
+    let left = subst (λ s. IsTrue (is_in m s)) c.difference.ensures.value in_old in
+    let parts = and_parts (not (is_in m c.entered-after.result)) (is_in m c.entered-before.result) (sym (is_in-difference m c.entered-before.result c.entered-after.result) ∙ left) in
+    entries_some (old b) c.entered-before.result c.entered-before.ensures (map plain_outcome w.outcomes.items) w.entries c.self.invariant.entered b.unwrap-i.result (at b) m parts.1
 
 pub add_each-requires : goal.add_each-requires
 add_each-requires c m in_new =
     let w = c.self.inside in
     let b = (goal.at.add_each-requires c).After-index-outcomes-i in
-    let room = entries_room (old b) c.entered.result c.entered.ensures (map plain_outcome w.outcomes.items) w.entries c.self.invariant.entered b.unwrap-i.result (at b) (record (new b) { number = c.args.o.0 }) c.entered-2.result c.entered-2.ensures c.remove_each.new.self c.remove_each.ensures m in_new in
+    let room = entries_room (old b) c.entered-before.result c.entered-before.ensures (map plain_outcome w.outcomes.items) w.entries c.self.invariant.entered b.unwrap-i.result (at b) (record (new b) { number = c.args.o.0 }) c.entered-after.result c.entered-after.ensures c.remove_each.new.self
+    (subst (λ s. (k : ℕ) → slice_index w.entries k ≡ slice_index c.remove_each.new.self k + cond (is_in k s) 1 0) c.difference.ensures.value c.remove_each.ensures) m (subst (λ s. IsTrue (is_in m s)) c.difference-2.ensures.value in_new) in
     omega (arith, room, few_outcomes w c.self.invariant, c.self.invariant.few_numbers)
 
 pub invariant_of-self : goal.invariant_of-self
@@ -98,8 +105,9 @@ invariant_of-self c =
       counted = subst (λ ns. AreCountsOf ns w.counts)
           (sym (ap (map atom_number) c.set.ensures.items ∙ map-set_same atom_number w.outcomes.items c.unwrap-i.result _ c.index-outcomes-i.result (ap atom_number (read b)))) c.self.invariant.counted;
       entered = subst (λ os. AreEntriesOf os c.add_each.new.self) (sym (ap (map plain_outcome) c.set.ensures.items ∙ map-set plain_outcome w.outcomes.items c.unwrap-i.result _))
-          (entries-set (old b) c.entered.result c.entered.ensures outcomes w.entries c.self.invariant.entered b.unwrap-i.result (at b) (record (new b) { number = c.args.o.0 }) c.entered-2.result c.entered-2.ensures
-          c.remove_each.new.self c.remove_each.ensures c.add_each.new.self c.add_each.ensures);
+          (entries-set (old b) c.entered-before.result c.entered-before.ensures outcomes w.entries c.self.invariant.entered b.unwrap-i.result (at b) (record (new b) { number = c.args.o.0 }) c.entered-after.result c.entered-after.ensures
+          c.remove_each.new.self (subst (λ s. (k : ℕ) → slice_index w.entries k ≡ slice_index c.remove_each.new.self k + cond (is_in k s) 1 0) c.difference.ensures.value c.remove_each.ensures)
+          c.add_each.new.self (subst (λ s. (k : ℕ) → slice_index c.add_each.new.self k ≡ slice_index c.remove_each.new.self k + cond (is_in k s) 1 0) c.difference-2.ensures.value c.add_each.ensures));
     }
 
 pub returns-clause-plain : goal.returns-clause-plain
