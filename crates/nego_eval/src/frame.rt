@@ -88,7 +88,7 @@ impl Frame {
     {
         let start = self.pair.start;
         let middle = rows.find(Pair { node: first, start })?;
-        let is_loop = is_star(rows, first);
+        let is_loop = begins_with_star(rows, first) || begins_with_star(rows, second);
         self.take_kept(rows, first, second, middle);
         while let Some(y) = self.left_of(middle, is_loop) {
             self.follow(rows, second, y)?;
@@ -167,7 +167,7 @@ impl Frame {
         }
     }
 
-    /// A number that wasn't followed. Behind a loop it is the last from the start on, or the first before it: so rows from
+    /// A number that wasn't followed. Beside a loop it is the last from the start on, or the first before it: so rows from
     /// which later ones may take most are made first, where the loop counts up or down.
     fn left_of(&self, middle: &DataSet, is_loop: bool) -> Option<u16>
         requires { self.now.pair.start ≤ 1024 }
@@ -263,6 +263,14 @@ impl Frame {
         self.met.add(row);
         self.followed.insert(y);
         Ok(())
+    }
+}
+
+/// Whether the node is a star, or a composition whose first node is one.
+fn begins_with_star(rows: &Rows, node: NodeId) -> bool {
+    match rows.nodes.get(node) {
+        Some(Node::Then(first, _)) => is_star(rows, first),
+        _ => is_star(rows, node),
     }
 }
 
