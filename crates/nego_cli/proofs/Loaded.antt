@@ -10,10 +10,10 @@ use Rattle.nego_reader.specs.Spelling.{Spells}
 use Rattle.nego_reader.proofs.RisingWords.{rising}
 use Rattle.nego_reader.proofs.Said.{spelled_once, first_fault_once}
 use Rattle.nego_shape.specs.declared.fault.ShapeFault.{ShapeFault}
-use Rattle.nego_shape.specs.Conditions.{HasShape, condition_of}
+use Rattle.nego_shape.specs.Conditions.{HasShape}
 use Rattle.nego_shape.specs.FirstFault.{IsFirstFault}
 use Rattle.nego_shape.proofs.JointLaws.{first_joint}
-use Rattle.nego_shape.proofs.OneFault.{one_fault}
+use Rattle.nego_shape.proofs.Stages.{one_fault}
 use Rattle.nego_cli.specs.declared.failure.PartName.TheVariants as parts
 use Rattle.nego_cli.specs.declared.failure.Refusal.{Refusal}
 use Rattle.nego_cli.specs.declared.failure.Refusal.TheVariants as refusals
@@ -30,7 +30,7 @@ one_diagram text d e s t = s.is ∙ (ap diagram_of (spelled_once text s.value t.
 -- a value that a text spells has no fault of shape where it spells a diagram
 misshapen_not : (text : List ℕ) (p : Parsed) (fault : ShapeFault) (d : PlainDiagram) → Spells text p → IsFirstFault p fault → SpellsDiagram text d → ⊥
 misshapen_not text p fault d spelled faulty s =
-    faulty.first.broken (subst (λ q. HasShape (content_of q)) (spelled_once text s.value p s.spelled spelled) s.shaped (condition_of fault.kind))
+    faulty.first.broken (subst (λ q. HasShape (content_of q)) (spelled_once text s.value p s.spelled spelled) s.shaped faulty.condition)
 
 -- a text that has no diagram spells none
 no_diagram_not : (text : List ℕ) (why : Refusal) (d : PlainDiagram) → HasNoDiagram text why → SpellsDiagram text d → ⊥

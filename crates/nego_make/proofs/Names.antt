@@ -13,7 +13,7 @@ use Rattle.nego_base.proofs.PairLaws.{AllPairs-nil, AllPairs-cons}
 use Rattle.nego_reader.specs.Content.{AtomContent}
 use Rattle.nego_shape.specs.Naming.{place_of, places_of, agent_names, atom_names, parties_in, parties_at}
 use Rattle.nego_shape.specs.Shaped.{AreDifferent, IsDeclared}
-use Rattle.nego_shape.proofs.SoundPlaces.{place_is}
+use Rattle.nego_shape.proofs.Places.{place_is}
 use Rattle.nego_make.specs.Generated.{agent_name, atom_name, everyone, by_turns, parties, atom, generated}
 
 abbrev pub AreBelow : ℕ → List ℕ → Type 0

@@ -1,9 +1,8 @@
 -- Pairs of items of lists that are strung together, and items by their places.
-use Rattle.std.proofs.Common.{◌≡◌, ◌⊎◌, inl, inr, ℕ, ◌<◌, List, [], ◌∷◌, ◌++◌, length, take, get_or, Some, slice_get, sym, subst, ◌∙◌, arith}
+use Rattle.std.proofs.Common.{◌≡◌, ◌⊎◌, inl, inr, ℕ, ◌<◌, List, [], ◌∷◌, get_or, Some, slice_get, subst, arith}
 use Rattle.std.proofs.lemmas.Bool.{cases_lt, cases_eq}
-use Rattle.std.proofs.lemmas.List.{get_or-take, length-take-le}
 use Rattle.std.proofs.lemmas.List.Elements.{All-nil, All-cons, All-head, All-tail}
-use Rattle.std.proofs.lemmas.Option.{same_Some, slice_get_within, get_or_from_slice_get}
+use Rattle.std.proofs.lemmas.Option.{slice_get_within, get_or_from_slice_get}
 use Rattle.std.specs.List.{All, AllPairs, flat_map}
 use Rattle.nego_base.proofs.ListLaws.{All-each, All-flat}
 use Rattle.nego_base.proofs.PairLaws.{AllPairs-nil, AllPairs-cons, AllPairs-head, AllPairs-tail, AllPairs-append, AllPairs-front, AllPairs-back, AllPairs-between}
@@ -40,28 +39,3 @@ module _ {X : Type 0} where
   pair_at R xs i j x y h l at at' =
       subst (λ z. R z y) (get_or_from_slice_get xs i x x at)
       (subst (R (get_or xs i x)) (get_or_from_slice_get xs j y x at') (h i j x l (slice_get_within xs j y at')))
-
-  -- an item before a place
-  pub before_at : (P : X → Type 0) (xs : List X) (i j : ℕ) (x y : X) → All P (take i xs) → j < i → slice_get xs i ≡ Some x → slice_get xs j ≡ Some y → P y
-  before_at P xs i j x y h l at at' =
-      let within = slice_get_within xs i x at in
-      let long = length-take-le i xs (omega (arith, within)) in
-      subst P (get_or-take i xs j y l ∙ get_or_from_slice_get xs j y y at') (h j y (omega (arith, l, long)))
-
-  -- the item of a place is one
-  pub one_at : (xs : List X) (i : ℕ) (x y : X) → slice_get xs i ≡ Some x → slice_get xs i ≡ Some y → x ≡ y
-  one_at xs i x y at at' = same_Some x y (sym at ∙ at')
-
--- two places
-pub compared : (i j : ℕ) → (i < j) ⊎ ((i ≡ j) ⊎ (j < i))
-compared i j = elim (cases_lt i j) [
-  | inl less ↦ inl less
-  | inr more ↦ elim (cases_eq i j) [ inl same ↦ inr (inl same) | inr other ↦ inr (inr (omega (arith, more, other))) ]
-]
-
--- places of which neither is before the other
-pub only_place : (i j : ℕ) → (i < j → ⊥) → (j < i → ⊥) → i ≡ j
-only_place i j h k = elim (compared i j) [
-  | inl less ↦ absurd (h less)
-  | inr rest ↦ elim rest [ inl same ↦ same | inr more ↦ absurd (k more) ]
-]

@@ -1,14 +1,12 @@
 -- Sets of agents and atoms that are gathered name by name.
-use Rattle.std.proofs.Common.{◌≡◌, ℕ, ◌+◌, ◌<◌, ◌≤◌, ◌==◌, ◌||◌, ◌&&◌, Bool, true, false, List, [], ◌∷◌, ◌++◌, length, map, take, get_or, refl, sym, ap, subst, ◌∙◌, arith, ltb-true, lt-ltb, eqb-true}
+use Rattle.std.proofs.Common.{◌≡◌, ℕ, ◌+◌, ◌<◌, ◌≤◌, ◌==◌, ◌||◌, ◌&&◌, Bool, true, false, List, [], ◌∷◌, length, map, take, get_or, refl, sym, ap, subst, ◌∙◌, arith, ltb-true, lt-ltb, eqb-true}
 use Rattle.std.proofs.lemmas.Bool.{and_parts, and_from}
 use Rattle.std.proofs.lemmas.List.{length-map, get_or-map}
-use Rattle.std.proofs.lemmas.List.Elements.{All-weaker}
 use Rattle.std.proofs.lemmas.List.Folds.{list_any_more}
-use Rattle.std.specs.List.{All, list_any, range_with_len}
+use Rattle.std.specs.List.{All, list_any, filter, range_with_len}
 use Rattle.nego_base.specs.declared.line.Word.{Word}
 use Rattle.nego_base.specs.Members.{is_in, with_member, IsRisingBelow}
-use Rattle.nego_base.proofs.Members.{is_in-with, is_in-filter, is_in-range_zero, same_below, All-members}
-use Rattle.nego_base.proofs.ListLaws.{map-take_more}
+use Rattle.nego_base.proofs.Members.{is_in-with, is_in-filter, is_in-range_zero, same_below, All-members, rises-filter, rises-range}
 use Rattle.nego_base.proofs.BoolLaws.{same_tests, passing_item}
 use Rattle.nego_reader.specs.declared.parsed.PNext.{PNext}
 use Rattle.nego_reader.specs.Content.{Content, OutContent, next_content, texts}
@@ -16,7 +14,7 @@ use Rattle.nego_shape.specs.Naming.{place_of, places_of, agent_names, atom_names
 use Rattle.nego_shape.specs.Shaped.{IsDeclared}
 use Rattle.nego_shape.specs.declared.numbers.NextNumbers.{NextNumbers}
 use Rattle.nego_shape.specs.Made.{next_numbers}
-use Rattle.nego_shape.proofs.Places.{named_place, parties_in-rises, in_parties_in, next_atoms-rises}
+use Rattle.nego_shape.proofs.Places.{named_place}
 use Rattle.nego_shape.proofs.Sought.{places-any}
 
 or_swap : (s t : Bool) → (s || t) ≡ (t || s)
@@ -53,20 +51,26 @@ one_more_place all words i word set place below is at so_far a =
     ∙ (ap (λ n. list_any (λ w. place_of w.text all == a) (take i words) || (n == a)) (at ∙ ap (λ (w : Word). place_of w.text all) is)
     ∙ sym (places-any all a (take (i + 1) words) ∙ list_any_more (λ w. place_of w.text all == a) words i word below))))
 
+-- a set of the numbers that pass a test, which only numbers below the count do
+pub set_is_filter : (test : ℕ → Bool) (count width : ℕ) (set : List ℕ) → IsRisingBelow width set → count ≤ width → ((a : ℕ) → is_in a set ≡ test a) → ((a : ℕ) → test a ≡ true → a < count) → set ≡ filter test (range_with_len 0 count)
+set_is_filter test count width set rises few same inside =
+    let all = range_with_len 0 count in
+    same_below width set (filter test all) rises
+    (record { rising = rises-filter test 0 all (rises-range 0 count); below = All-members (λ a. a < width) (filter test all) (λ a m. let less = ltb-true a count (sym (is_in-range_zero a count) ∙ (parts a m).1) in omega (arith, less, few)) })
+    (λ a h. same_tests (is_in a set) (is_in a (filter test all))
+    (λ m. let t : test a ≡ true = sym (same a) ∙ m in is_in-filter test a all ∙ and_from (test a) (is_in a all) t (is_in-range_zero a count ∙ lt-ltb a count (inside a t)))
+    (λ m. same a ∙ (parts a m).0))
+  where
+    parts : (a : ℕ) → is_in a (filter test (range_with_len 0 count)) ≡ true → (test a ≡ true) × (is_in a (range_with_len 0 count) ≡ true)
+    parts a m = and_parts (test a) (is_in a (range_with_len 0 count)) (sym (is_in-filter test a (range_with_len 0 count)) ∙ m)
+
 -- the set of the places of declared agents is their parties
 pub set_is_parties : (c : Content) (width : ℕ) (names : List (List ℕ)) (set : List ℕ) → IsRisingBelow width set → length c.agents ≤ width → length (agent_names c) ≡ length c.agents →
     All (IsDeclared (agent_names c)) names → ((a : ℕ) → is_in a set ≡ is_in a (places_of names (agent_names c))) → set ≡ parties_in c names
 set_is_parties c width names set rises few count declared same =
-    let there = parties_in-rises c names in
-    same_below width set (parties_in c names) rises
-    (record { rising = there.rising; below = All-weaker (λ a. a < length c.agents) (λ a. a < width) (λ a h. omega (arith, h, few)) (parties_in c names) there.below })
-    (λ a h. same_tests (is_in a set) (is_in a (parties_in c names))
-    (λ m.
-    let k : is_in a (places_of names (agent_names c)) ≡ true = sym (same a) ∙ m in
+    set_is_filter (λ a. is_in a (places_of names (agent_names c))) (length c.agents) width set rises few same (λ a k.
     let named = named_place (IsDeclared (agent_names c)) a names (agent_names c) declared k in
-    in_parties_in c a names (subst (λ n. a < n) count (subst (λ b. b < length (agent_names c)) named.1 named.2)) k)
-    (λ m. same a ∙ (and_parts (is_in a (places_of names (agent_names c))) (is_in a (range_with_len 0 (length c.agents)))
-    (sym (is_in-filter (λ x. is_in x (places_of names (agent_names c))) a (range_with_len 0 (length c.agents))) ∙ m)).0))
+    subst (λ n. a < n) count (subst (λ b. b < length (agent_names c)) named.1 named.2))
 
 -- the next line is one for atom m, and the agent stands on it
 abbrev pub leads_on : ℕ → ℕ → NextNumbers → Bool
@@ -91,7 +95,7 @@ no_more_line a nexts i next set below is off so_far m =
     ∙ sym (list_any_more (leads_on a m) nexts i next below))
 
 -- an agent stands on a next line by number as in the content
-stands_on : (c : Content) (a : ℕ) (names : List (List ℕ)) → a < length c.agents → is_in a (parties_in c names) ≡ is_in a (places_of names (agent_names c))
+pub stands_on : (c : Content) (a : ℕ) (names : List (List ℕ)) → a < length c.agents → is_in a (parties_in c names) ≡ is_in a (places_of names (agent_names c))
 stands_on c a names below =
     is_in-filter (λ x. is_in x (places_of names (agent_names c))) a (range_with_len 0 (length c.agents))
     ∙ sym (and_true (is_in a (places_of names (agent_names c))) (is_in a (range_with_len 0 (length c.agents))) (is_in-range_zero a (length c.agents) ∙ lt-ltb a (length c.agents) below))
@@ -107,28 +111,10 @@ lines_lead c a m (next ∷ nexts) below =
 pub set_is_next : (c : Content) (width a : ℕ) (out : OutContent) (set : List ℕ) → IsRisingBelow width set → length c.atoms ≤ width → length (atom_names c) ≡ length c.atoms →
     All (λ next. IsDeclared (atom_names c) next.atom) out.nexts → ((m : ℕ) → is_in m set ≡ list_any (leads_to c a m) out.nexts) → set ≡ next_atoms c out a
 set_is_next c width a out set rises few count declared same =
-    same_below width set (next_atoms c out a) rises (record { rising = next_atoms-rises c out a; below = All-members-below })
-    (λ m h. same_tests (is_in m set) (is_in m (next_atoms c out a))
-    (λ q.
-    let k : list_any (leads_to c a m) out.nexts ≡ true = sym (same m) ∙ q in
+    set_is_filter (λ n. list_any (leads_to c a n) out.nexts) (length c.atoms) width set rises few same (λ m k.
     let line = passing_item (leads_to c a m) (λ next. IsDeclared (atom_names c) next.atom) out.nexts k declared in
     let here = eqb-true (place_of line.0.atom (atom_names c)) m (and_parts (place_of line.0.atom (atom_names c) == m) (is_in a (places_of line.0.agents (agent_names c))) line.1).0 in
-    let below : m < length c.atoms = subst (λ n. m < n) count (subst (λ b. b < length (atom_names c)) here line.2) in
-    is_in-filter (λ n. list_any (leads_to c a n) out.nexts) m (range_with_len 0 (length c.atoms))
-    ∙ and_from (list_any (leads_to c a m) out.nexts) (is_in m (range_with_len 0 (length c.atoms))) k (is_in-range_zero m (length c.atoms) ∙ lt-ltb m (length c.atoms) below))
-    (λ q. same m ∙ (parts m q).0))
-  where
-    parts : (m : ℕ) → is_in m (next_atoms c out a) ≡ true → (list_any (leads_to c a m) out.nexts ≡ true) × (is_in m (range_with_len 0 (length c.atoms)) ≡ true)
-    parts m q = and_parts (list_any (leads_to c a m) out.nexts) (is_in m (range_with_len 0 (length c.atoms))) (sym (is_in-filter (λ n. list_any (leads_to c a n) out.nexts) m (range_with_len 0 (length c.atoms))) ∙ q)
-
-    All-members-below : All (λ m. m < width) (next_atoms c out a)
-    All-members-below = All-members (λ m. m < width) (next_atoms c out a) (λ m q.
-        let l : m < length c.atoms = ltb-true m (length c.atoms) (sym (is_in-range_zero m (length c.atoms)) ∙ (parts m q).1) in omega (arith, l, few))
-
--- one more item, of which one more is made
-pub one_more_item : {A B : Type 0} (f : A → B) (xs : List A) (i : ℕ) (item : A) (old new : List B) (x : B) → i < length xs → item ≡ get_or xs i item → x ≡ f item → new ≡ old ++ x ∷ [] → old ≡ map f (take i xs) → new ≡ map f (take (i + 1) xs)
-one_more_item {A} {B} f xs i item old new x below is made put so_far =
-    put ∙ (ap (λ (ys : List B). ys ++ x ∷ []) so_far ∙ (ap (λ (y : B). map f (take i xs) ++ y ∷ []) made ∙ sym (map-take_more f xs i item item below (sym is))))
+    subst (λ n. m < n) count (subst (λ b. b < length (atom_names c)) here line.2))
 
 -- what is made of the item at a place
 pub made_at : {A B : Type 0} (f : A → B) (xs : List A) (ys : List B) (i : ℕ) (x : A) (y : B) → ys ≡ map f xs → i < length xs → x ≡ get_or xs i x → y ≡ get_or ys i y → y ≡ f x

@@ -41,9 +41,6 @@ in_either x xs ys h = go (is_in x xs) (is_in x ys) (sym (is_in-append x xs ys) �
     go true t q = inl refl
     go false t q = inr q
 
-pub in_left : (x : ℕ) (xs ys : List ℕ) → is_in x xs ≡ true → is_in x (xs ++ ys) ≡ true
-in_left x xs ys h = is_in-append x xs ys ∙ ap (λ b. b || is_in x ys) h
-
 pub in_right : (x : ℕ) (xs ys : List ℕ) → is_in x ys ≡ true → is_in x (xs ++ ys) ≡ true
 in_right x xs ys h = is_in-append x xs ys ∙ (ap (λ b. is_in x xs || b) h ∙ go (is_in x xs))
   where

@@ -13,15 +13,12 @@ use Rattle.nego_model.specs.Parts.{plain_atom, plain_outcome, plain_of}
 use Rattle.nego_reader.specs.declared.parsed.Parsed.{Parsed}
 use Rattle.nego_reader.specs.declared.parsed.PAgent.{PAgent}
 use Rattle.nego_reader.specs.declared.parsed.PAtom.{PAtom}
-use Rattle.nego_data.specs.declared.cases.Case.{Case}
-use Rattle.nego_data.specs.declared.cases.Test.{Test}
-use Rattle.nego_data.specs.declared.cases.Set.{Set}
 use Rattle.nego_reader.specs.declared.parsed.PCase.{PCase}
 use Rattle.nego_reader.specs.declared.parsed.POut.{POut}
-use Rattle.nego_reader.specs.Content.{Content, AgentContent, AtomContent, OutContent, agent_content, atom_content, out_content, case_content, test_content, set_content, content_of}
+use Rattle.nego_reader.specs.Content.{Content, AgentContent, AtomContent, OutContent, agent_content, atom_content, out_content, case_content, content_of}
 use Rattle.nego_base.proofs.LineLoops.{cut_at}
 use Rattle.nego_base.proofs.ListLaws.{mapped_at}
-use Rattle.nego_shape.specs.Naming.{place_of, agent_names, atom_names, sizes_in, outs_from, all_outs, test_in, set_in, case_in, atom_in, outcome_in, diagram_in}
+use Rattle.nego_shape.specs.Naming.{place_of, agent_names, atom_names, sizes_in, outs_from, all_outs, case_in, atom_in, outcome_in, diagram_in}
 use Rattle.nego_shape.specs.Made.{placed_at, part_in, parts_from}
 
 -- parts without the numbers of their outcomes
@@ -163,19 +160,6 @@ one_more_made {A} {B} {C} f g front old new items i x item below is made put so_
     ap (map f) put
     ∙ (map-append f old (x ∷ []) ∙ (ap (λ (y : B). map f old ++ y ∷ []) made ∙ (ap (λ (ys : List B). ys ++ g item ∷ []) so_far
     ∙ (append_assoc (map f front) (map g (take i items)) (g item ∷ []) ∙ ap (λ (ys : List B). map f front ++ ys) (sym more)))))
-
--- one more case
-pub case_more : (c : Content) (cases : List PCase) (i : ℕ) (case : PCase) (made new : List Case) (tests : List Test) (sets : List Set) → i < length cases → case ≡ get_or cases i case →
-    tests ≡ map (λ test. test_in c (test_content test)) case.tests → sets ≡ map (λ set. set_in c (set_content set)) case.sets → made ≡ map (λ x. case_in c (case_content x)) (take i cases) →
-    new ≡ made ++ record { tests = tests; sets = sets } ∷ [] → new ≡ map (λ x. case_in c (case_content x)) (take (i + 1) cases)
-case_more c cases i case made new tests sets below is e1 e2 so_far put =
-    let t : tests ≡ map (test_in c) (map test_content case.tests) = e1 ∙ sym (map-map (test_in c) test_content case.tests) in
-    let s : sets ≡ map (set_in c) (map set_content case.sets) = e2 ∙ sym (map-map (set_in c) set_content case.sets) in
-    let item : ◌≡◌ {A = Case} (record { tests = tests; sets = sets }) (case_in c (case_content (get_or cases i case))) =
-    ap (λ (x : List Test). record { tests = x; sets = sets }) t ∙ (ap (λ (x : List Set). record { tests = map (test_in c) (map test_content case.tests); sets = x }) s ∙ ap (λ (x : PCase). case_in c (case_content x)) is) in
-    put ∙ (ap (λ (xs : List Case). xs ++ record { tests = tests; sets = sets } ∷ []) so_far
-    ∙ (ap (λ (x : Case). map (λ y. case_in c (case_content y)) (take i cases) ++ x ∷ []) item
-    ∙ sym (ap (map (λ x. case_in c (case_content x))) (take_more cases i case below) ∙ map-append (λ x. case_in c (case_content x)) (take i cases) (get_or cases i case ∷ []))))
 
 -- the cases, as they are read off
 pub cases_read : (c : Content) (cases : List PCase) → map (λ case. case_in c (case_content case)) cases ≡ map (case_in c) (map case_content cases)

@@ -35,9 +35,6 @@ module _ (nego : Negotiation) where
   pub least_same : (xs ys : List ℕ) (n : ℕ) → ((m : ℕ) → is_in m xs ≡ is_in m ys) → IsLeastReady nego xs n → IsLeastReady nego ys n
   least_same xs ys n same h = record { ready = ready_same xs ys n same h.ready; least = λ m r. h.least m (ready_same ys xs m (λ k. sym (same k)) r) }
 
-  pub none_placed : ArePlaced nego [] []
-  none_placed = record { least = λ k l. absurd (let gone : ⊥ = omega (arith, l) in gone); same = λ n. refl }
-
   pub one_placed : (order placed : List ℕ) (n : ℕ) → IsLeastReady nego placed n → ArePlaced nego order placed → ArePlaced nego (order ++ n ∷ []) (with_member n placed)
   one_placed order placed n next so_far = record { least = each; same = same_with order placed n so_far.same }
     where

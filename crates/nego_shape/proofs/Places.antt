@@ -1,8 +1,9 @@
 -- Places of names, and the agents and atoms that names are.
-use Rattle.std.proofs.Common.{◌≡◌, ◌≢◌, ⊎_elim, ℕ, suc, ◌+◌, ◌<◌, ◌==◌, Bool, true, false, not, cond, List, [], ◌∷◌, length, Option, Some, None, slice_get, refl, sym, subst, ap, ◌∙◌, arith, eqb-true, eq-eqb}
-use Rattle.std.proofs.lemmas.Bool.{and_parts, and_from, or_left, or_right, or_cases, false≢true, ltb-true, lt-ltb}
-use Rattle.std.proofs.lemmas.Option.{same_Some}
+use Rattle.std.proofs.Common.{◌≡◌, ◌≢◌, ⊎_elim, ℕ, suc, ◌+◌, ◌<◌, ◌==◌, Bool, true, false, not, cond, List, [], ◌∷◌, length, get_or, Option, Some, None, slice_get, refl, sym, subst, ap, ◌∙◌, arith, eqb-true, eq-eqb}
+use Rattle.std.proofs.lemmas.Bool.{and_parts, and_from, or_left, or_right, or_cases, false≢true, false_from_ne_true, ltb-true, lt-ltb}
+use Rattle.std.proofs.lemmas.Option.{same_Some, get_or_from_slice_get, slice_get_within}
 use Rattle.std.proofs.lemmas.List.Elements.{All-nil, All-head, All-tail}
+use Rattle.std.proofs.lemmas.List.Sums.{position_or_len_is}
 use Rattle.std.proofs.lemmas.Slice.Eq.{bytes_eq-Decides}
 use Rattle.std.specs.List.{All, list_any, range_with_len}
 use Rattle.std.specs.Option.{option_map_or}
@@ -12,7 +13,7 @@ use Rattle.nego_base.proofs.Members.{is_in-filter, is_in-range_zero, rises-filte
 use Rattle.nego_base.proofs.BoolLaws.{passing_item}
 use Rattle.nego_reader.specs.Content.{Content, AtomContent, OutContent, NextContent}
 use Rattle.nego_shape.specs.Naming.{place_of, places_of, agent_names, atom_names, parties_in, parties_at, leads_to, next_atoms}
-use Rattle.nego_shape.specs.Shaped.{IsDeclared}
+use Rattle.nego_shape.specs.Shaped.{AreDifferent, IsDeclared}
 
 -- a declared name stands at its place
 pub place_of-at : (name : List ℕ) (names : List (List ℕ)) → IsDeclared names name → slice_get names (place_of name names) ≡ Some name
@@ -109,3 +110,12 @@ module _ (c : Content) where
       is_in-filter (λ n. list_any (leads_to c a n) out.nexts) r.0 (range_with_len 0 (length c.atoms))
       ∙ and_from (list_any (leads_to c a r.0) out.nexts) (is_in r.0 (range_with_len 0 (length c.atoms))) r.2 (is_in-range_zero r.0 (length c.atoms) ∙ lt-ltb r.0 (length c.atoms) (subst (λ n. r.0 < n) l r.1)) in
       false≢true (subst (λ xs. is_in r.0 xs ≡ true) e m)
+
+-- a name that stands at a place, where names differ
+pub place_is : (names : List (List ℕ)) → AreDifferent names → (a : ℕ) (name : List ℕ) → slice_get names a ≡ Some name → place_of name names ≡ a
+place_is names differ a name at =
+    let inside = slice_get_within names a name at in
+    let is = get_or_from_slice_get names a name name at in
+    position_or_len_is (λ other. bytes_eq other name) names a name (omega (arith, inside))
+    (λ k l. false_from_ne_true (bytes_eq (get_or names k name) name) (λ t. differ k a name l inside ((bytes_eq-Decides (get_or names k name) name).0 t ∙ sym is)))
+    (λ l. (bytes_eq-Decides (get_or names a name) name).1 is)

@@ -22,7 +22,7 @@ use Rattle.nego_model.proofs.diagrams.Conditions.{AtomFits, OutcomeLeads, HasFor
 use Rattle.nego_reader.specs.Content.{Content, AgentContent, AtomContent, OutContent, NextContent}
 use Rattle.nego_shape.specs.Naming.{PlacedOut, place_of, agent_names, atom_names, sizes_in, all_outs, parties_in, parties_at, next_atoms, atom_in, outcome_in, diagram_in}
 use Rattle.nego_shape.specs.Conditions.{AllCovered, HasShape}
-use Rattle.nego_shape.proofs.ConditionLaws.{shape_form}
+use Rattle.nego_shape.proofs.FormLaws.{shape_form}
 use Rattle.nego_shape.specs.Shaped.{IsDeclared, IsParty, IsNamedParty, IsSent, HasNameWords, first_number, last_number}
 use Rattle.nego_shape.specs.Made.{parts_from}
 use Rattle.nego_shape.proofs.Places.{parties_in-rises, some_party_in, next_atoms-rises, next_atoms-line, some_next_atom, named_place}

@@ -1,5 +1,5 @@
 -- The words of a text as those of its pieces, and that they rise.
-use Rattle.std.proofs.Common.{◌≡◌, inl, inr, List, [], ◌∷◌, ◌++◌, map, refl, sym, subst, ap, ap₂, ◌∙◌}
+use Rattle.std.proofs.Common.{◌≡◌, ◌⊎◌, inl, inr, ◌<◌, List, [], ◌∷◌, ◌++◌, map, refl, sym, subst, ap, ap₂, ◌∙◌}
 use Rattle.std.proofs.lemmas.Grind.{flat_map-append}
 use Rattle.std.proofs.lemmas.List.Folds.{flat_map-map}
 use Rattle.std.specs.List.{AllPairs, flat_map}
@@ -10,10 +10,13 @@ use Rattle.nego_reader.specs.declared.parsed.PAgent.{PAgent}
 use Rattle.nego_reader.specs.declared.parsed.PAtom.{PAtom}
 use Rattle.nego_reader.specs.declared.parsed.POut.{POut}
 use Rattle.nego_reader.specs.declared.parsed.PNext.{PNext}
-use Rattle.nego_reader.specs.Rows.{Row, HeaderRow, AgentRow, AtomRow, OutRow, CaseRow, NextRow, FirstRow, LastRow, EndRow, out_rows, atom_rows, rows_of}
-use Rattle.nego_reader.specs.Rising.{case_words, words_in, HasRisingWords}
+use Rattle.nego_reader.specs.Rows.{AgentRow, CaseRow, NextRow, FirstRow, LastRow, EndRow, out_rows, atom_rows, rows_of}
+use Rattle.nego_reader.specs.Rising.{case_words, words_in, IsLeftOf, HasRisingWords}
 use Rattle.nego_shape.proofs.FlatPairs.{pairs_of_all}
-use Rattle.nego_shape.proofs.FirstWords.{IsBefore}
+
+-- the one word stands before the other
+abbrev pub IsBefore : Word → Word → Type 0
+IsBefore word other = (word.line < other.line) ⊎ IsLeftOf word other
 
 -- a word alone
 abbrev pub single : Word → List Word
@@ -37,11 +40,11 @@ singles [] = refl
 singles (word ∷ words) = ap (λ ws. word ∷ ws) (singles words)
 
 module _ {A X : Type 0} where
-  alike : (f g : A → List X) (xs : List A) → ((x : A) → f x ≡ g x) → flat_map f xs ≡ flat_map g xs
+  pub alike : (f g : A → List X) (xs : List A) → ((x : A) → f x ≡ g x) → flat_map f xs ≡ flat_map g xs
   alike f g [] h = refl
   alike f g (x ∷ xs) h = ap₂ (λ ys zs. ys ++ zs) (h x) (alike f g xs h)
 
-  twice_flat : {B : Type 0} (f : B → List X) (g : A → List B) (xs : List A) → flat_map f (flat_map g xs) ≡ flat_map (λ x. flat_map f (g x)) xs
+  pub twice_flat : {B : Type 0} (f : B → List X) (g : A → List B) (xs : List A) → flat_map f (flat_map g xs) ≡ flat_map (λ x. flat_map f (g x)) xs
   twice_flat f g [] = refl
   twice_flat f g (x ∷ xs) = flat_map-append f (g x) (flat_map g xs) ∙ ap (λ ys. flat_map f (g x) ++ ys) (twice_flat f g xs)
 

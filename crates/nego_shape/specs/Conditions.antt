@@ -1,13 +1,9 @@
--- The shape of a diagram: the conditions on a text's content in the order in which they are tested, and which of them a
--- fault of each kind breaks.
-use Rattle.std.specs.Prelude.{◌≡◌, ◌≢◌, ℕ, ◌<◌, ◌≤◌, List, [], ◌∷◌, ◌++◌, length, All}
+-- The shape of a diagram: the conditions on a text's content in the order in which they are tested.
+use Rattle.std.specs.Prelude.{◌≢◌, ℕ, ◌<◌, ◌≤◌, List, [], ◌∷◌, length, All}
 use Rattle.nego_data.specs.Data.{data_count}
 use Rattle.nego_data.specs.Sizes.{AreSizes}
 use Rattle.nego_data.specs.CaseForm.{AssignsBelow}
 use Rattle.nego_reader.specs.Content.{Content}
-use Rattle.nego_shape.specs.declared.fault.Many.TheVariants as many
-use Rattle.nego_shape.specs.declared.fault.ShapeKind.{ShapeKind}
-use Rattle.nego_shape.specs.declared.fault.ShapeKind.TheVariants as kinds
 use Rattle.nego_shape.specs.Naming.{sizes_in, all_outs, cases_in}
 use Rattle.nego_shape.specs.Shaped.{AreNamedOnce, AreAllDeclared, IsParty, SendsAll, HasNoStranger, EndsLast, NamesParties, IsAllCovered, first_number, last_number}
 
@@ -69,36 +65,6 @@ Holds AllCovered c = All (λ placed. IsAllCovered c placed.out) (all_outs c)
 -- The content has the shape of a diagram: it meets every condition.
 abbrev pub HasShape : Content → Type 0
 HasShape c = (condition : Condition) → Holds condition c
-
--- the condition that a fault of the kind breaks
-abbrev pub condition_of : ShapeKind → Condition
-condition_of kinds.NoAgent = SomeAgent
-condition_of (kinds.TooMany many.Agents) = FewAgents
-condition_of (kinds.TooMany many.Atoms) = FewAtoms
-condition_of (kinds.TooMany many.Outcomes) = FewOutcomes
-condition_of (kinds.Twice name) = NamedOnce
-condition_of (kinds.Unknown name) = AllDeclared
-condition_of (kinds.NoParty n) = SomeParty
-condition_of (kinds.NoOutcome n) = SomeOutcome
-condition_of (kinds.FirstLacks a) = AllBegin
-condition_of (kinds.LastLacks a) = AllEnd
-condition_of (kinds.NextMissing o a) = AllSent
-condition_of (kinds.NextStranger o a n) = NoStranger
-condition_of (kinds.LastLeads o) = LastEnds
-condition_of (kinds.NotParty o a) = PartiesAlone
-condition_of (kinds.ZeroSize a) = NoZeroSize
-condition_of (kinds.SizeTooLarge a) = NoLargeSize
-condition_of (kinds.JointTooLarge a) = NoLargeJoint
-condition_of (kinds.ValueTooLarge o a) = NoLargeValue
-condition_of (kinds.NotTotal o d) = AllCovered
-
--- The content breaks this condition, and it meets each one before it.
-pub record IsFirstBroken (c : Content) (condition : Condition) : Type 0 where
-  pub before : List Condition
-  pub behind : List Condition
-  pub order : conditions ≡ before ++ condition ∷ behind
-  pub met : All (λ other. Holds other c) before
-  pub broken : ¬ Holds condition c
 
 -- The content has the form of a diagram: it meets every condition but the last.
 pub record IsFormed (c : Content) : Type 0 where

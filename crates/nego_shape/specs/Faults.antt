@@ -1,419 +1,209 @@
--- The first fault of shape of a text. Each kind of fault is looked for in the whole text, in its order, before the next
--- kind is.
-use Rattle.std.specs.Prelude.{ℕ, ◌+◌, ◌*◌, Bool, false, nat_lt, nat_le, ◌==◌, ◌||◌, ◌&&◌, not, if◌then◌else◌, position, List, [], ◌∷◌, ◌++◌, length, map, take, slice_get, unwrap_or, Option, Some, None}
-use Rattle.std.specs.List.{list_any}
-use Rattle.std.specs.Option.{option_or, option_map}
+-- The faults of shape: for each condition the list of all that break it, in the order of the text. The list is empty where
+-- the condition holds.
+use Rattle.std.specs.Prelude.{◌≡◌, ◌⊎◌, ℕ, ◌+◌, ◌<◌, Bool, false, nat_lt, nat_le, ◌==◌, ◌||◌, ◌&&◌, not, if◌then◌else◌, List, [], ◌∷◌, ◌++◌, length, map, take, slice_get, slice_index, Option}
+use Rattle.std.specs.List.{list_any, flat_map, filter, range_with_len}
+use Rattle.std.specs.Option.{option_map, option_map_or}
 use Rattle.std.specs.Str.{bytes_eq}
 use Rattle.nego_base.specs.declared.line.Word.{Word}
 use Rattle.nego_base.specs.declared.ids.AgentId.{AgentId}
-use Rattle.nego_base.specs.Firsts.{first_among, first_numbered}
+use Rattle.nego_base.specs.Firsts.{first_among}
+use Rattle.nego_base.specs.Members.{is_in}
+use Rattle.nego_data.specs.Cases.{covers}
+use Rattle.nego_data.specs.Data.{data_count, split}
 use Rattle.nego_reader.specs.declared.parsed.Parsed.{Parsed}
 use Rattle.nego_reader.specs.declared.parsed.PAgent.{PAgent}
 use Rattle.nego_reader.specs.declared.parsed.PAtom.{PAtom}
 use Rattle.nego_reader.specs.declared.parsed.POut.{POut}
 use Rattle.nego_reader.specs.declared.parsed.PNext.{PNext}
 use Rattle.nego_reader.specs.declared.parsed.PCase.{PCase}
-use Rattle.nego_reader.specs.declared.parsed.PTest.{PTest}
-use Rattle.nego_reader.specs.declared.parsed.PRight.{PRight}
-use Rattle.nego_reader.specs.declared.parsed.PRight.TheVariants as rights
 use Rattle.nego_reader.specs.declared.parsed.PSet.{PSet}
-use Rattle.nego_reader.specs.declared.parsed.PTerm.{PTerm}
-use Rattle.nego_reader.specs.declared.parsed.PTerm.TheVariants as terms
-use Rattle.nego_shape.specs.declared.fault.Many.{Many}
+use Rattle.nego_reader.specs.Content.{Content, NextContent, CaseContent, TermContent, AnyTerm, NumberTerm, PlusTerm, MinusTerm, content_of, out_content, next_content, case_content}
+use Rattle.nego_reader.specs.Rising.{case_words}
+use Rattle.nego_reader.specs.Rows.{Row, HeaderRow, AgentRow, AtomRow, OutRow, CaseRow, NextRow, FirstRow, LastRow, EndRow, rows_of}
 use Rattle.nego_shape.specs.declared.fault.Many.TheVariants as many
+use Rattle.nego_shape.specs.declared.fault.ShapeFault.{ShapeFault}
 use Rattle.nego_shape.specs.declared.fault.ShapeKind.{ShapeKind}
 use Rattle.nego_shape.specs.declared.fault.ShapeKind.TheVariants as kinds
-use Rattle.nego_shape.specs.declared.fault.ShapeFault.{ShapeFault}
-use Rattle.nego_shape.specs.declared.checks.outcomes.Rule.{Rule}
-use Rattle.nego_shape.specs.declared.checks.outcomes.Rule.TheVariants as rules
-use Rattle.nego_data.specs.CaseForm.{first_uncovered}
-use Rattle.nego_reader.specs.Content.{content_of, out_content}
-use Rattle.nego_shape.specs.Naming.{sizes_in, cases_in}
+use Rattle.nego_shape.specs.Conditions.{Condition, SomeAgent, FewAgents, FewAtoms, FewOutcomes, NamedOnce, AllDeclared, SomeParty, SomeOutcome, AllBegin, AllEnd, AllSent, NoStranger, LastEnds, PartiesAlone, NoZeroSize, NoLargeSize, NoLargeJoint, NoLargeValue, AllCovered}
+use Rattle.nego_shape.specs.Naming.{place_of, places_of, agent_names, atom_names, sizes_in, parties_in, parties_at, cases_in}
+use Rattle.nego_shape.specs.Shaped.{last_number, case_names}
 
--- a fault on a line
-abbrev pub fault_on : ℕ → ShapeKind → ShapeFault
-fault_on line kind = record { line = line; kind = kind }
+-- A fault, and how far behind it stands on its line: by its agent's number, that of its joint data, or its word's column.
+pub record Spot : Type 0 where
+  pub fault : ShapeFault
+  pub number : ℕ
 
--- two words have the same bytes
-abbrev pub same : Word → Word → Bool
-same word other = bytes_eq other.text word.text
+abbrev pub spot : ℕ → ℕ → ShapeKind → Spot
+spot line number kind = record { fault = record { line = line; kind = kind }; number = number }
+
+-- the fault, where this holds
+abbrev pub spot_if : Bool → ℕ → ShapeKind → List Spot
+spot_if test line kind = if test then spot line 0 kind ∷ [] else []
+
+-- a fault of each of these agents
+abbrev pub of_agents : ℕ → (AgentId → ShapeKind) → List ℕ → List Spot
+of_agents line kind agents = map (λ a. spot line a (kind (record { 0 = a }))) agents
+
+-- what the items give, numbered from n on
+unfoldable pub numbered : {A B : Type 0} → (ℕ → A → List B) → ℕ → List A → List B
+numbered f n [] = []
+numbered f n (x ∷ xs) = f n x ++ numbered f (n + 1) xs
+
+-- what the outcomes give by the number of their atom and their own, where atoms are numbered from n on, and outcomes from o on
+unfoldable pub each_out : {B : Type 0} → (ℕ → ℕ → POut → List B) → ℕ → ℕ → List PAtom → List B
+each_out f n o [] = []
+each_out f n o (atom ∷ atoms) = numbered (f n) o atom.outs ++ each_out f (n + 1) (o + length atom.outs) atoms
+
+-- ---- names
 
 -- the word stands among these
 abbrev pub stands_in : List Word → Word → Bool
-stands_in words word = list_any (same word) words
+stands_in words word = list_any (λ other. bytes_eq other.text word.text) words
 
--- an agent has this name
-abbrev pub is_agent : List PAgent → Word → Bool
-is_agent agents word = list_any (λ agent. same word agent.name) agents
+abbrev pub word_if : Bool → Word → List Word
+word_if test word = if test then word ∷ [] else []
 
--- an atom has this name
-abbrev pub is_atom : List PAtom → Word → Bool
-is_atom atoms word = list_any (λ atom. same word atom.name) atoms
+-- the name of the item, where one before it has this name too
+abbrev pub again : {A : Type 0} → (A → Word) → List A → A → List Word
+again name before item = word_if (list_any (λ other. bytes_eq (name other).text (name item).text) before) (name item)
 
--- ---- no agent, and too many
+abbrev pub repeated : {A : Type 0} → (A → Word) → List A → List Word
+repeated name items = numbered (λ i item. again name (take i items) item) 0 items
 
--- there is no agent line
-abbrev pub no_agent : List PAgent → Option ShapeFault
-no_agent [] = Some (fault_on 1 kinds.NoAgent)
-no_agent (agent ∷ agents) = None
+-- the agent stands on one of these lines, which is for this atom
+abbrev pub is_led : List PNext → Word → Word → Bool
+is_led nexts atom agent = list_any (λ next. bytes_eq next.atom.text atom.text && stands_in next.agents agent) nexts
 
--- the first name past so many
-abbrev pub past : ℕ → Many → List Word → Option ShapeFault
-past most what names = option_map (λ word. fault_on word.line (kinds.TooMany what)) (slice_get names most)
+-- the agents of a next line who stand on it before, or on an earlier line for the same atom
+abbrev pub sent_again : List PNext → PNext → List Word
+sent_again earlier next = numbered (λ i agent. word_if (stands_in (take i next.agents) agent || is_led earlier next.atom agent) agent) 0 next.agents
 
--- the names of all outcomes
-unfoldable pub out_names : List PAtom → List Word
-out_names [] = []
-out_names (atom ∷ atoms) = map (λ out. out.name) atom.outs ++ out_names atoms
+-- the words of an outcome that stand for a second time: its name, agents in a case, and agents on next lines
+abbrev pub twice_in_out : List POut → POut → List Word
+twice_in_out before out = again (λ (other : POut). other.name) before out ++ (flat_map (λ case. repeated (λ (set : PSet). set.agent) case.sets) out.cases ++ numbered (λ k next. sent_again (take k out.nexts) next) 0 out.nexts)
 
--- more than 16 agents, 64 atoms or 256 outcomes
-abbrev pub too_many : Parsed → Option ShapeFault
-too_many p =
-    option_or (past 16 many.Agents (map (λ agent. agent.name) p.agents))
-    (option_or (past 64 many.Atoms (map (λ atom. atom.name) p.atoms)) (past 256 many.Outcomes (out_names p.atoms)))
+abbrev pub twice_in_atom : List PAtom → PAtom → List Word
+twice_in_atom before atom = again (λ (other : PAtom). other.name) before atom ++ (repeated (λ (party : Word). party) atom.parties ++ numbered (λ i out. twice_in_out (take i atom.outs) out) 0 atom.outs)
 
--- ---- what stands twice
+-- each word that is the second of its name: among the agents' names, the atoms', the parties of an atom, the names of its
+-- outcomes, the agents that a case assigns, or those on the next lines of an outcome for one atom
+abbrev pub twice_words : Parsed → List Word
+twice_words p = repeated (λ (agent : PAgent). agent.name) p.agents ++ numbered (λ n atom. twice_in_atom (take n p.atoms) atom) 0 p.atoms
 
--- the word, where this holds
-abbrev pub word_if : Bool → Word → Option Word
-word_if test word = if test then Some word else None
+-- those of the words that are none of these names
+abbrev pub others : List (List ℕ) → List Word → List Word
+others names words = filter (λ word. not (nat_lt (place_of word.text names) (length names))) words
 
--- the word, where it stands before
-abbrev pub again : List Word → Word → Option Word
-again before word = word_if (stands_in before word) word
+-- the words of a line that name agents who aren't declared, or atoms that aren't
+abbrev pub undeclared_in : Content → Row → List Word
+undeclared_in c HeaderRow = []
+undeclared_in c (AgentRow a) = []
+undeclared_in c (AtomRow name parties) = others (agent_names c) parties
+undeclared_in c (OutRow name) = []
+undeclared_in c (CaseRow case) = others (agent_names c) (case_words case)
+undeclared_in c (NextRow next) = others (atom_names c) (next.atom ∷ []) ++ others (agent_names c) next.agents
+undeclared_in c (FirstRow name) = others (atom_names c) (name ∷ [])
+undeclared_in c (LastRow name) = others (atom_names c) (name ∷ [])
+undeclared_in c EndRow = []
 
--- the first word that stands before it too
-abbrev pub repeated : List Word → Option Word
-repeated words = first_numbered (λ i word. again (take i words) word) 0 words
+abbrev pub undeclared_words : Parsed → List Word
+undeclared_words p = flat_map (undeclared_in (content_of p)) (rows_of p)
 
--- the agent of an assignment, where an earlier one is to it
-abbrev pub set_again : List PSet → PSet → Option Word
-set_again before set = word_if (list_any (λ other. same set.agent other.agent) before) set.agent
+abbrev pub of_words : (List ℕ → ShapeKind) → List Word → List Spot
+of_words kind words = map (λ word. spot word.line word.column (kind word.text)) words
 
--- the first agent assigned to twice
-abbrev pub twice_in_sets : List PSet → Option Word
-twice_in_sets sets = first_numbered (λ i set. set_again (take i sets) set) 0 sets
+-- ---- atoms and agents
 
-abbrev pub twice_in_case : PCase → Option Word
-twice_in_case c = twice_in_sets c.sets
+-- the agents who are no party of the atom that the word names
+abbrev pub lacking : Content → (AgentId → ShapeKind) → Word → List Spot
+lacking c kind word = of_agents word.line kind (filter (λ a. not (is_in a (parties_at c (place_of word.text (atom_names c))))) (range_with_len 0 (length c.agents)))
 
--- the agent stands on this line, which is one for the atom
-abbrev pub leads : Word → Word → PNext → Bool
-leads atom agent next = same atom next.atom && stands_in next.agents agent
+-- with this agent's size the product of those up to it is the first above 1,024
+abbrev pub passes_joint : List ℕ → ℕ → Bool
+passes_joint sizes a = nat_le (data_count (take a sizes)) 1024 && nat_lt 1024 (data_count (take (a + 1) sizes))
 
--- the agent of a next line for an atom, where it stands before on the line, or on an earlier line for the atom
-abbrev pub agent_again : List PNext → Word → List Word → Word → Option Word
-agent_again earlier atom before agent = word_if (stands_in before agent || list_any (leads atom agent) earlier) agent
+-- ---- outcomes
 
--- the first such agent of a next line
-abbrev pub twice_among : List PNext → Word → List Word → Option Word
-twice_among earlier atom agents = first_numbered (λ i agent. agent_again earlier atom (take i agents) agent) 0 agents
+-- agent a stands on one of the next lines
+abbrev pub is_sent : Content → List NextContent → ℕ → Bool
+is_sent c nexts a = list_any (λ next. is_in a (places_of next.agents (agent_names c))) nexts
 
-abbrev pub twice_on_next : List PNext → PNext → Option Word
-twice_on_next earlier next = twice_among earlier next.atom next.agents
+-- the parties of another atom than the last who stand on no next line of its outcome
+abbrev pub missing : Content → ℕ → ℕ → POut → List Spot
+missing c n o out = if n == last_number c then [] else of_agents out.name.line (kinds.NextMissing (record { 0 = o })) (filter (λ a. not (is_sent c (out_content out).nexts a)) (parties_at c n))
 
--- the first agent who stands twice on next lines for the same atom
-abbrev pub twice_on_nexts : List PNext → Option Word
-twice_on_nexts nexts = first_numbered (λ i next. twice_on_next (take i nexts) next) 0 nexts
+-- the agents on a next line who are no party of the outcome's atom, or of the next atom
+abbrev pub strangers : Content → ℕ → ℕ → PNext → List Spot
+strangers c n o next =
+    let m = place_of next.atom.text (atom_names c) in
+    of_agents next.atom.line (λ a. kinds.NextStranger (record { 0 = o }) a (record { 0 = m })) (filter (λ a. not (is_in a (parties_at c n) && is_in a (parties_at c m))) (parties_in c (next_content next).agents))
 
--- the first that stands twice in an outcome
-abbrev pub twice_in_out : POut → Option Word
-twice_in_out out = option_or (first_among twice_in_case out.cases) (twice_on_nexts out.nexts)
-
--- an outcome's name, where an earlier outcome has it
-abbrev pub out_again : List POut → POut → Option Word
-out_again before out = word_if (list_any (λ other. same out.name other.name) before) out.name
-
--- the first that stands twice from an outcome's name on
-abbrev pub twice_from_out : List POut → POut → Option Word
-twice_from_out before out = option_or (out_again before out) (twice_in_out out)
-
--- the first that stands twice in the outcomes of an atom
-abbrev pub twice_in_outs : List POut → Option Word
-twice_in_outs outs = first_numbered (λ i out. twice_from_out (take i outs) out) 0 outs
-
--- the first that stands twice in an atom
-abbrev pub twice_in_atom : PAtom → Option Word
-twice_in_atom atom = option_or (repeated atom.parties) (twice_in_outs atom.outs)
-
--- an atom's name, where an earlier atom has it
-abbrev pub atom_again : List PAtom → PAtom → Option Word
-atom_again before atom = word_if (is_atom before atom.name) atom.name
-
--- the first that stands twice from an atom's name on
-abbrev pub twice_from_atom : List PAtom → PAtom → Option Word
-twice_from_atom before atom = option_or (atom_again before atom) (twice_in_atom atom)
-
--- the first that stands twice in the atoms
-abbrev pub twice_in_atoms : List PAtom → Option Word
-twice_in_atoms atoms = first_numbered (λ i atom. twice_from_atom (take i atoms) atom) 0 atoms
-
--- an agent's name, where an earlier agent has it
-abbrev pub name_again : List PAgent → PAgent → Option Word
-name_again before agent = word_if (is_agent before agent.name) agent.name
-
--- the first name that an earlier agent has
-abbrev pub twice_in_agents : List PAgent → Option Word
-twice_in_agents agents = first_numbered (λ i agent. name_again (take i agents) agent) 0 agents
-
--- the first that stands twice
-abbrev pub twice_in : Parsed → Option Word
-twice_in p = option_or (twice_in_agents p.agents) (twice_in_atoms p.atoms)
-
--- ---- names that aren't declared
-
-abbrev pub unknown_agent : List PAgent → Word → Option Word
-unknown_agent agents word = word_if (not (is_agent agents word)) word
-
-abbrev pub unknown_atom : List PAtom → Word → Option Word
-unknown_atom atoms word = word_if (not (is_atom atoms word)) word
-
-abbrev pub unknown_right : List PAgent → PRight → Option Word
-unknown_right agents (rights.Number n) = None
-unknown_right agents (rights.Name name) = unknown_agent agents name
-
-abbrev pub unknown_in_test : List PAgent → PTest → Option Word
-unknown_in_test agents test = option_or (unknown_agent agents test.left) (unknown_right agents test.right)
-
-abbrev pub unknown_term : List PAgent → PTerm → Option Word
-unknown_term agents terms.Any = None
-unknown_term agents (terms.Number n) = None
-unknown_term agents (terms.Plus name n) = unknown_agent agents name
-unknown_term agents (terms.Minus name n) = unknown_agent agents name
-
-abbrev pub unknown_in_set : List PAgent → PSet → Option Word
-unknown_in_set agents set = option_or (unknown_agent agents set.agent) (unknown_term agents set.term)
-
-abbrev pub unknown_in_case : List PAgent → PCase → Option Word
-unknown_in_case agents c = option_or (first_among (unknown_in_test agents) c.tests) (first_among (unknown_in_set agents) c.sets)
-
-abbrev pub unknown_in_next : Parsed → PNext → Option Word
-unknown_in_next p next = option_or (unknown_atom p.atoms next.atom) (first_among (unknown_agent p.agents) next.agents)
-
-abbrev pub unknown_in_out : Parsed → POut → Option Word
-unknown_in_out p out = option_or (first_among (unknown_in_case p.agents) out.cases) (first_among (unknown_in_next p) out.nexts)
-
-abbrev pub unknown_in_atom : Parsed → PAtom → Option Word
-unknown_in_atom p atom = option_or (first_among (unknown_agent p.agents) atom.parties) (first_among (unknown_in_out p) atom.outs)
-
--- the first name of an agent or an atom that isn't declared
-abbrev pub unknown_in : Parsed → Option Word
-unknown_in p = option_or (first_among (unknown_in_atom p) p.atoms) (option_or (unknown_atom p.atoms p.first) (unknown_atom p.atoms p.last))
-
--- ---- atoms without parties or outcomes, and who lacks at the first and the last
-
--- the atom of this number has no party
-abbrev pub no_party_at : ℕ → PAtom → Option ShapeFault
-no_party_at n atom = if length atom.parties == 0 then Some (fault_on atom.name.line (kinds.NoParty (record { 0 = n }))) else None
-
-abbrev pub no_party : List PAtom → Option ShapeFault
-no_party atoms = first_numbered no_party_at 0 atoms
-
--- the atom of this number has no outcome
-abbrev pub no_outcome_at : ℕ → PAtom → Option ShapeFault
-no_outcome_at n atom = if length atom.outs == 0 then Some (fault_on atom.name.line (kinds.NoOutcome (record { 0 = n }))) else None
-
-abbrev pub no_outcome : List PAtom → Option ShapeFault
-no_outcome atoms = first_numbered no_outcome_at 0 atoms
-
--- the agent is a party of an atom of this name
-abbrev pub is_party_at : List PAtom → Word → PAgent → Bool
-is_party_at atoms name agent = list_any (λ atom. same name atom.name && stands_in atom.parties agent.name) atoms
-
--- the least agent that is no party of the atom of this name
-abbrev pub lacks : (AgentId → ShapeKind) → Word → Parsed → Option ShapeFault
-lacks kind name p = option_map (λ a. fault_on name.line (kind (record { 0 = a }))) (position (λ agent. not (is_party_at p.atoms name agent)) p.agents)
-
--- ---- agents, by outcome
-
--- the least agent of whom this holds, as a fault on a line
-abbrev pub agent_fault : ℕ → (AgentId → ShapeKind) → (PAgent → Bool) → List PAgent → Option ShapeFault
-agent_fault line kind test agents = option_map (λ a. fault_on line (kind (record { 0 = a }))) (position test agents)
-
--- the atom is the last
-abbrev pub is_last : Parsed → PAtom → Bool
-is_last p atom = same p.last atom.name
-
--- the party of the atom stands on no next line of the outcome
-abbrev pub is_missing : PAtom → POut → PAgent → Bool
-is_missing atom out agent = stands_in atom.parties agent.name && not (list_any (λ next. stands_in next.agents agent.name) out.nexts)
-
-abbrev pub next_missing_at : Parsed → PAtom → ℕ → POut → Option ShapeFault
-next_missing_at p atom o out =
-    if is_last p atom then None else agent_fault out.name.line (kinds.NextMissing (record { 0 = o })) (is_missing atom out) p.agents
-
--- the agent stands on the next line, and is no party of the atom or of the next atom
-abbrev pub is_stranger : Parsed → PAtom → PNext → PAgent → Bool
-is_stranger p atom next agent = stands_in next.agents agent.name && not (stands_in atom.parties agent.name && is_party_at p.atoms next.atom agent)
-
--- the number of the atom of this name, and the count of the atoms where there is none
-abbrev pub atom_number : List PAtom → Word → ℕ
-atom_number atoms name = unwrap_or (position (λ atom. same name atom.name) atoms) (length atoms)
-
-abbrev pub next_stranger_on : Parsed → PAtom → ℕ → PNext → Option ShapeFault
-next_stranger_on p atom o next =
-    agent_fault next.atom.line (λ a. kinds.NextStranger (record { 0 = o }) a (record { 0 = atom_number p.atoms next.atom })) (is_stranger p atom next) p.agents
-
-abbrev pub next_stranger_at : Parsed → PAtom → ℕ → POut → Option ShapeFault
-next_stranger_at p atom o out = first_among (next_stranger_on p atom o) out.nexts
-
-abbrev pub last_leads_at : Parsed → PAtom → ℕ → POut → Option ShapeFault
-last_leads_at p atom o out =
-    if is_last p atom then option_map (λ next. fault_on next.atom.line (kinds.LastLeads (record { 0 = o }))) (slice_get out.nexts 0) else None
-
--- the line of a case that names an agent
-abbrev pub sets_line : List PSet → ℕ
-sets_line [] = 0
-sets_line (set ∷ sets) = set.agent.line
-
-abbrev pub tests_line : List PTest → List PSet → ℕ
-tests_line [] sets = sets_line sets
-tests_line (test ∷ tests) sets = test.left.line
-
+-- the line of the first name in a case
 abbrev pub case_line : PCase → ℕ
-case_line c = tests_line c.tests c.sets
+case_line case = option_map_or (λ (word : Word). word.line) (slice_get (case_words case) 0) 0
 
--- the right side, a comparison, a term, an assignment, a case names the agent
-abbrev pub right_names : Word → PRight → Bool
-right_names agent (rights.Number n) = false
-right_names agent (rights.Name name) = same agent name
+-- the agents of a case who are no party of the outcome's atom
+abbrev pub outsiders : Content → ℕ → ℕ → PCase → List Spot
+outsiders c n o case = of_agents (case_line case) (kinds.NotParty (record { 0 = o })) (filter (λ a. not (is_in a (parties_at c n))) (parties_in c (case_names (case_content case))))
 
-abbrev pub test_names : Word → PTest → Bool
-test_names agent test = same agent test.left || right_names agent test.right
+-- the term is a number that isn't below the size
+abbrev pub is_too_large : ℕ → TermContent → Bool
+is_too_large size AnyTerm = false
+is_too_large size (NumberTerm n) = nat_le size n
+is_too_large size (PlusTerm name n) = false
+is_too_large size (MinusTerm name n) = false
 
-abbrev pub term_names : Word → PTerm → Bool
-term_names agent terms.Any = false
-term_names agent (terms.Number n) = false
-term_names agent (terms.Plus name n) = same agent name
-term_names agent (terms.Minus name n) = same agent name
+-- the case assigns the agent such a number
+abbrev pub is_overfull : Content → CaseContent → ℕ → Bool
+is_overfull c case a = list_any (λ set. (place_of set.agent (agent_names c) == a) && is_too_large (slice_index (sizes_in c) a) set.term) case.sets
 
-abbrev pub set_names : Word → PSet → Bool
-set_names agent set = same agent set.agent || term_names agent set.term
+abbrev pub overfull : Content → ℕ → PCase → List Spot
+overfull c o case = of_agents (case_line case) (kinds.ValueTooLarge (record { 0 = o })) (filter (is_overfull c (case_content case)) (range_with_len 0 (length c.agents)))
 
-abbrev pub case_names : Word → PCase → Bool
-case_names agent c = list_any (test_names agent) c.tests || list_any (set_names agent) c.sets
+-- the joint data that no case of the outcome covers
+abbrev pub uncovered : Content → ℕ → POut → List Spot
+uncovered c o out =
+    map (λ d. spot out.name.line d (kinds.NotTotal (record { 0 = o }) d)) (filter (λ d. not (list_any (λ case. covers case (split (sizes_in c) d)) (cases_in c (out_content out)))) (range_with_len 0 (data_count (sizes_in c))))
 
--- the case names the agent, who is no party of the atom
-abbrev pub is_outside : PAtom → PCase → PAgent → Bool
-is_outside atom c agent = case_names agent.name c && not (stands_in atom.parties agent.name)
+-- ---- each condition
 
-abbrev pub not_party_on : Parsed → PAtom → ℕ → PCase → Option ShapeFault
-not_party_on p atom o c = agent_fault (case_line c) (kinds.NotParty (record { 0 = o })) (is_outside atom c) p.agents
+abbrev pub faults : Condition → Parsed → List Spot
+faults SomeAgent p = spot_if (length p.agents == 0) 1 kinds.NoAgent
+faults FewAgents p = numbered (λ i agent. spot_if (i == 16) agent.name.line (kinds.TooMany many.Agents)) 0 p.agents
+faults FewAtoms p = numbered (λ i atom. spot_if (i == 64) atom.name.line (kinds.TooMany many.Atoms)) 0 p.atoms
+faults FewOutcomes p = each_out (λ n o out. spot_if (o == 256) out.name.line (kinds.TooMany many.Outcomes)) 0 0 p.atoms
+faults NamedOnce p = of_words kinds.Twice (twice_words p)
+faults AllDeclared p = of_words kinds.Unknown (undeclared_words p)
+faults SomeParty p = numbered (λ n atom. spot_if (length atom.parties == 0) atom.name.line (kinds.NoParty (record { 0 = n }))) 0 p.atoms
+faults SomeOutcome p = numbered (λ n atom. spot_if (length atom.outs == 0) atom.name.line (kinds.NoOutcome (record { 0 = n }))) 0 p.atoms
+faults AllBegin p = lacking (content_of p) kinds.FirstLacks p.first
+faults AllEnd p = lacking (content_of p) kinds.LastLacks p.last
+faults AllSent p = each_out (missing (content_of p)) 0 0 p.atoms
+faults NoStranger p = each_out (λ n o out. flat_map (strangers (content_of p) n o) out.nexts) 0 0 p.atoms
+faults LastEnds p = each_out (λ n o out. flat_map (λ (next : PNext). spot_if (n == last_number (content_of p)) next.atom.line (kinds.LastLeads (record { 0 = o }))) out.nexts) 0 0 p.atoms
+faults PartiesAlone p = each_out (λ n o out. flat_map (outsiders (content_of p) n o) out.cases) 0 0 p.atoms
+faults NoZeroSize p = numbered (λ a agent. spot_if (agent.size == 0) agent.name.line (kinds.ZeroSize (record { 0 = a }))) 0 p.agents
+faults NoLargeSize p = numbered (λ a agent. spot_if (nat_lt 64 agent.size) agent.name.line (kinds.SizeTooLarge (record { 0 = a }))) 0 p.agents
+faults NoLargeJoint p = numbered (λ a agent. spot_if (passes_joint (sizes_in (content_of p)) a) agent.name.line (kinds.JointTooLarge (record { 0 = a }))) 0 p.agents
+faults NoLargeValue p = each_out (λ n o out. flat_map (overfull (content_of p) o) out.cases) 0 0 p.atoms
+faults AllCovered p = each_out (λ n o out. uncovered (content_of p) o out) 0 0 p.atoms
 
-abbrev pub not_party_at : Parsed → PAtom → ℕ → POut → Option ShapeFault
-not_party_at p atom o out = first_among (not_party_on p atom o) out.cases
+-- the first of these
+abbrev pub first_of : List Spot → Option ShapeFault
+first_of spots = option_map (λ (s : Spot). s.fault) (slice_get spots 0)
 
--- the term is a constant that isn't below the size
-abbrev pub is_too_large : ℕ → PTerm → Bool
-is_too_large size terms.Any = false
-is_too_large size (terms.Number n) = nat_le size n
-is_too_large size (terms.Plus name n) = false
-is_too_large size (terms.Minus name n) = false
+-- the first fault of the first of these conditions that has any
+abbrev pub first_fault : List Condition → Parsed → Option ShapeFault
+first_fault conditions p = first_among (λ condition. first_of (faults condition p)) conditions
 
--- the case assigns the agent such a constant
-abbrev pub is_overfull : PCase → PAgent → Bool
-is_overfull c agent = list_any (λ set. same agent.name set.agent && is_too_large agent.size set.term) c.sets
+-- The one stands before the other: on an earlier line, or on the same with a lesser number.
+abbrev pub IsAhead : Spot → Spot → Type 0
+IsAhead one two = (one.fault.line < two.fault.line) ⊎ ((one.fault.line ≡ two.fault.line) × (one.number < two.number))
 
-abbrev pub value_too_large_on : Parsed → ℕ → PCase → Option ShapeFault
-value_too_large_on p o c = agent_fault (case_line c) (kinds.ValueTooLarge (record { 0 = o })) (is_overfull c) p.agents
+-- the conditions that are tested before any name is looked up
+abbrev pub counts : List Condition
+counts = SomeAgent ∷ FewAgents ∷ FewAtoms ∷ FewOutcomes ∷ []
 
-abbrev pub value_too_large_at : Parsed → PAtom → ℕ → POut → Option ShapeFault
-value_too_large_at p atom o out = first_among (value_too_large_on p o) out.cases
-
--- what an outcome, with its number and its atom, breaks of the rule
-abbrev pub broken_at : Rule → Parsed → PAtom → ℕ → POut → Option ShapeFault
-broken_at rules.NextMissing p atom o out = next_missing_at p atom o out
-broken_at rules.NextStranger p atom o out = next_stranger_at p atom o out
-broken_at rules.LastLeads p atom o out = last_leads_at p atom o out
-broken_at rules.NotParty p atom o out = not_party_at p atom o out
-broken_at rules.ValueTooLarge p atom o out = value_too_large_at p atom o out
-
--- what the outcomes of an atom, numbered from o on, break of the rule first
-abbrev pub broken_among : Rule → Parsed → PAtom → ℕ → List POut → Option ShapeFault
-broken_among rule p atom o outs = first_numbered (λ i out. broken_at rule p atom (o + i) out) 0 outs
-
--- what the outcomes of atoms, numbered from o on, break of the rule first
-unfoldable pub broken_from : Rule → Parsed → ℕ → List PAtom → Option ShapeFault
-broken_from rule p o [] = None
-broken_from rule p o (atom ∷ atoms) = option_or (broken_among rule p atom o atom.outs) (broken_from rule p (o + length atom.outs) atoms)
-
-abbrev pub broken : Rule → Parsed → Option ShapeFault
-broken rule p = broken_from rule p 0 p.atoms
-
--- ---- sizes
-
--- the agent of this number has size 0
-abbrev pub zero_size_at : ℕ → PAgent → Option ShapeFault
-zero_size_at n agent = if agent.size == 0 then Some (fault_on agent.name.line (kinds.ZeroSize (record { 0 = n }))) else None
-
-abbrev pub zero_size : List PAgent → Option ShapeFault
-zero_size agents = first_numbered zero_size_at 0 agents
-
--- the agent of this number has a size above 64
-abbrev pub size_too_large_at : ℕ → PAgent → Option ShapeFault
-size_too_large_at n agent = if nat_lt 64 agent.size then Some (fault_on agent.name.line (kinds.SizeTooLarge (record { 0 = n }))) else None
-
-abbrev pub size_too_large : List PAgent → Option ShapeFault
-size_too_large agents = first_numbered size_too_large_at 0 agents
-
--- the first of the agents, numbered from n on, with whose size the product passes 1,024
-unfoldable pub joint_from : ℕ → ℕ → List PAgent → Option ShapeFault
-joint_from product n [] = None
-joint_from product n (agent ∷ agents) =
-    if nat_lt 1024 (product * agent.size) then Some (fault_on agent.name.line (kinds.JointTooLarge (record { 0 = n }))) else joint_from (product * agent.size) (n + 1) agents
-
-abbrev pub joint_too_large : List PAgent → Option ShapeFault
-joint_too_large agents = joint_from 1 0 agents
-
--- ---- the first of all
-
-abbrev pub twice : Parsed → Option ShapeFault
-twice p = option_map (λ word. fault_on word.line (kinds.Twice word.text)) (twice_in p)
-
-abbrev pub unknown : Parsed → Option ShapeFault
-unknown p = option_map (λ word. fault_on word.line (kinds.Unknown word.text)) (unknown_in p)
-
--- the first fault of atoms' parties and outcomes
-abbrev pub party_fault : Parsed → Option ShapeFault
-party_fault p =
-    option_or (no_party p.atoms) (option_or (no_outcome p.atoms) (option_or (lacks kinds.FirstLacks p.first p) (lacks kinds.LastLacks p.last p)))
-
--- the first fault of next lines
-abbrev pub next_fault : Parsed → Option ShapeFault
-next_fault p = option_or (broken rules.NextMissing p) (option_or (broken rules.NextStranger p) (broken rules.LastLeads p))
-
--- the first fault of sizes
-abbrev pub size_fault : Parsed → Option ShapeFault
-size_fault p = option_or (zero_size p.agents) (option_or (size_too_large p.agents) (joint_too_large p.agents))
-
--- the first fault of a text whose names are declared once and are not too many
-abbrev pub inner_fault : Parsed → Option ShapeFault
-inner_fault p = option_or (party_fault p) (option_or (next_fault p) (option_or (broken rules.NotParty p) (option_or (size_fault p) (broken rules.ValueTooLarge p))))
-
--- the first fault of shape, but that of cases which leave joint data uncovered
-abbrev pub form_fault : Parsed → Option ShapeFault
-form_fault p = option_or (no_agent p.agents) (option_or (too_many p) (option_or (twice p) (option_or (unknown p) (inner_fault p))))
-
--- ---- joint data that no case covers
-
--- the cases of the outcome of this number leave joint data uncovered
-abbrev pub not_total_at : Parsed → ℕ → POut → Option ShapeFault
-not_total_at p o out =
-    option_map (λ d. fault_on out.name.line (kinds.NotTotal (record { 0 = o }) d)) (first_uncovered (sizes_in (content_of p)) (cases_in (content_of p) (out_content out)))
-
--- the first of the outcomes, numbered from o on, whose cases leave joint data uncovered
-abbrev pub not_total_among : Parsed → ℕ → List POut → Option ShapeFault
-not_total_among p o outs = first_numbered (λ i out. not_total_at p (o + i) out) 0 outs
-
--- the same of the outcomes of atoms, numbered from o on
-unfoldable pub not_total_from : Parsed → ℕ → List PAtom → Option ShapeFault
-not_total_from p o [] = None
-not_total_from p o (atom ∷ atoms) = option_or (not_total_among p o atom.outs) (not_total_from p (o + length atom.outs) atoms)
-
--- the first outcome whose cases leave joint data uncovered
-abbrev pub not_total : Parsed → Option ShapeFault
-not_total p = not_total_from p 0 p.atoms
-
--- The first fault of shape: of the kinds in their order, each looked for in the whole text.
-abbrev pub shape_fault : Parsed → Option ShapeFault
-shape_fault p = option_or (form_fault p) (not_total p)
+-- those that are tested over the numbers of names
+abbrev pub inner : List Condition
+inner = SomeParty ∷ SomeOutcome ∷ AllBegin ∷ AllEnd ∷ AllSent ∷ NoStranger ∷ LastEnds ∷ PartiesAlone ∷ NoZeroSize ∷ NoLargeSize ∷ NoLargeJoint ∷ NoLargeValue ∷ []

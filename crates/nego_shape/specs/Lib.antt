@@ -10,3 +10,5 @@ pub mod Naming
 pub mod Ordering
 pub mod Shaped
 pub mod Walks
+pub mod Rules
+pub mod Undeclared

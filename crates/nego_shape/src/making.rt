@@ -1,16 +1,16 @@
 //! The diagram of a text that has no fault of shape but that of cases which leave joint data uncovered. Names become
 //! numbers in the order of the text.
 
-ghost use Rattle.std.specs.Prelude.{◌≡◌, ◌+◌, ◌<◌, ◌≤◌, ◌==◌, ◌&&◌, ◌++◌, ℕ, length, map, take, None, All, Contains, IfOk, IfErr, OnOk};
+ghost use Rattle.std.specs.Prelude.{◌≡◌, ◌+◌, ◌<◌, ◌≤◌, ◌==◌, ◌&&◌, ◌++◌, ℕ, [], length, map, take, All, Contains, IfOk, IfErr, OnOk};
 ghost use Rattle.std.specs.List.{range_with_len, list_any};
 ghost use Rattle.nego_base.specs.Members.{is_in, IsRisingBelow};
 ghost use Rattle.nego_data.specs.Cases.{rows_of};
 ghost use Rattle.nego_model.specs.Parts.{plain_outcome};
 ghost use Rattle.nego_reader.specs.Content.{content_of, atom_content, out_content, case_content};
 ghost use Rattle.nego_shape.specs.Answer.{Tells};
-ghost use Rattle.nego_shape.specs.Faults.{not_total_at, not_total_among, not_total};
+ghost use Rattle.nego_shape.specs.Faults.{numbered, uncovered, faults, first_of};
 ghost use Rattle.nego_shape.specs.Naming.{sizes_in, all_outs, parties_at, next_atoms, case_in, cases_in, outcome_in, diagram_in};
-ghost use Rattle.nego_shape.specs.Conditions.{IsFormed};
+ghost use Rattle.nego_shape.specs.Conditions.{IsFormed, AllCovered};
 ghost use Rattle.nego_shape.specs.Shaped.{HasNameWords};
 ghost use Rattle.nego_shape.specs.Made.{placed_at, parts_from, next_numbers, out_numbers, atom_numbers};
 
@@ -35,9 +35,9 @@ pub(crate) fn diagram(
     requires shaped { IsFormed (content_of p.now) }
     requires named { HasNameWords (content_of p.now) }
     requires numbers { numbers.now ≡ map (atom_numbers (content_of p.now)) p.now.atoms }
-    ensures total { IfOk result (λ _. not_total p.now ≡ None) }
+    ensures total { IfOk result (λ _. faults AllCovered p.now ≡ []) }
     ensures content { IfOk result (λ d. d ≡ diagram_in (content_of p.now)) }
-    ensures err { IfErr result (λ e. Tells e (not_total p.now)) }
+    ensures err { IfErr result (λ e. Tells e (first_of (faults AllCovered p.now))) }
 {
     let text = p.text();
     let agents = names_of(alloc, text)?;
@@ -105,8 +105,8 @@ fn outcomes_of(
     requires sizes { sizes.now ≡ sizes_in (content_of p.now) }
     requires numbers { numbers.now ≡ map (atom_numbers (content_of p.now)) p.now.atoms }
     ensures parts { IfOk result (λ parts. map (plain_outcome (length p.now.agents)) parts ≡ map (outcome_in (content_of p.now)) (all_outs (content_of p.now))) }
-    ensures total { IfOk result (λ _. not_total p.now ≡ None) }
-    ensures err { IfErr result (λ e. Tells e (not_total p.now)) }
+    ensures total { IfOk result (λ _. faults AllCovered p.now ≡ []) }
+    ensures err { IfErr result (λ e. Tells e (first_of (faults AllCovered p.now))) }
 {
     let atoms = p.text().atoms.as_slice();
     let mut outcomes = Seq::new(alloc);
@@ -143,8 +143,8 @@ fn add_outcomes(
     requires numbers { numbers.now.outs ≡ map (out_numbers (content_of p.now)) outs.now }
     requires few { length outcomes.old + length outs.now ≤ 256 }
     ensures parts { OnOk result (map (plain_outcome (length p.now.agents)) outcomes.new ≡ map (plain_outcome (length p.now.agents)) outcomes.old ++ map (λ out. outcome_in (content_of p.now) (placed_at n (out_content out))) outs.now) }
-    ensures total { OnOk result (not_total_among p.now (length outcomes.old) outs.now ≡ None) }
-    ensures err { IfErr result (λ e. Tells e (not_total_among p.now (length outcomes.old) outs.now)) }
+    ensures total { OnOk result (numbered (uncovered (content_of p.now)) (length outcomes.old) outs.now ≡ []) }
+    ensures err { IfErr result (λ e. Tells e (first_of (numbered (uncovered (content_of p.now)) (length outcomes.old) outs.now))) }
 {
     let mut maker = TableMaker::new(alloc, sizes, numbers.parties);
     for (i, out) in outs.iter().enumerate() {
@@ -171,8 +171,8 @@ fn outcome_part(
     requires out { Contains (all_outs (content_of p.now)) (placed_at n (out_content out.now)) }
     requires numbers { numbers.now ≡ out_numbers (content_of p.now) out.now }
     ensures part { IfOk result (λ part. plain_outcome (length p.now.agents) part ≡ outcome_in (content_of p.now) (placed_at n (out_content out.now))) }
-    ensures total { IfOk result (λ _. not_total_at p.now o.0 out.now ≡ None) }
-    ensures err { IfErr result (λ e. Tells e (not_total_at p.now o.0 out.now)) }
+    ensures total { IfOk result (λ _. uncovered (content_of p.now) o.0 out.now ≡ []) }
+    ensures err { IfErr result (λ e. Tells e (first_of (uncovered (content_of p.now) o.0 out.now))) }
     ensures maker { maker.new ≡ maker.old }
 {
     Ok(OutcomePart {
@@ -230,8 +230,8 @@ fn table(
     requires out { Contains (all_outs (content_of p.now)) (placed_at n (out_content out.now)) }
     requires cases { cases.now ≡ map (λ case. case_in (content_of p.now) (case_content case)) out.now.cases }
     ensures rows { IfOk result (λ table. table ≡ rows_of (sizes_in (content_of p.now)) (cases_in (content_of p.now) (out_content out.now))) }
-    ensures total { IfOk result (λ _. not_total_at p.now o.0 out.now ≡ None) }
-    ensures err { IfErr result (λ e. Tells e (not_total_at p.now o.0 out.now)) }
+    ensures total { IfOk result (λ _. uncovered (content_of p.now) o.0 out.now ≡ []) }
+    ensures err { IfErr result (λ e. Tells e (first_of (uncovered (content_of p.now) o.0 out.now))) }
     ensures maker { maker.new ≡ maker.old }
 {
     match maker.table(alloc, cases) {

@@ -1,15 +1,19 @@
 //! The numbers of names: agents count from 0 in the order of the agent lines, and atoms in that of the atom lines.
 
-ghost use Rattle.std.specs.Prelude.{◌≡◌, ◌≤◌, map, IfOk, OnOk};
+ghost use Rattle.std.specs.Prelude.{◌≡◌, ◌<◌, ◌≤◌, [], ◌∷◌, map, IfOk, OnOk};
 ghost use Rattle.std.specs.Str.{bytes_eq};
 ghost use Rattle.indexmap.specs.IndexSet.{index_set_len, insert_key};
 ghost use Rattle.nego_reader.specs.Content.{content_of};
-ghost use Rattle.nego_shape.specs.Naming.{place_of, atom_names, agent_in};
-ghost use Rattle.nego_shape.specs.Made.{HasNumbers};
+ghost use Rattle.nego_shape.specs.Faults.{others};
+ghost use Rattle.nego_shape.specs.Answer.{Tells};
+ghost use Rattle.nego_shape.specs.Naming.{place_of, agent_names, atom_names, agent_in};
+ghost use Rattle.nego_shape.specs.Conditions.{Holds, FewAgents, FewAtoms};
 ghost use Rattle.nego_shape.specs.Shaped.{AreDifferent, AreNamedOnce};
+ghost use Rattle.nego_shape.specs.Undeclared.{first_unknown, Declares};
 
+use crate::fault::{ShapeAnswer, ShapeFault, ShapeKind};
 use indexmap::IndexSet;
-use nego_base::{AgentId, AtomId, Memory, ShortText, Word};
+use nego_base::{AgentId, AtomId, Memory, ShortText, Text, Word};
 use nego_reader::{PAgent, PAtom, Parsed};
 use std::alloc::Global;
 use std::marker::Model;
@@ -24,6 +28,7 @@ pub(crate) struct Numbered<'a> {
 
 impl<'a> Model for Numbered<'a> {
     ghost use Rattle.std.specs.Prelude.{◌≡◌};
+    ghost use Rattle.nego_shape.specs.Conditions.{Holds, FewAgents, FewAtoms};
     ghost use Rattle.nego_reader.specs.declared.parsed.Parsed.{Parsed};
     ghost use Rattle.nego_reader.specs.Content.{content_of};
     ghost use Rattle.nego_shape.specs.Naming.{agent_names, atom_names};
@@ -32,13 +37,15 @@ impl<'a> Model for Numbered<'a> {
 
     ghost view = { λ p. p.text.now };
 
-    ghost invariant = { λ p. (p.agents.keys ≡ agent_names (content_of p.text.now)) × (p.atoms.keys ≡ atom_names (content_of p.text.now)) };
+    ghost invariant = { λ p. (p.agents.keys ≡ agent_names (content_of p.text.now)) × (p.atoms.keys ≡ atom_names (content_of p.text.now)) × Holds FewAgents (content_of p.text.now) × Holds FewAtoms (content_of p.text.now) };
 }
 
 impl<'a> Numbered<'a> {
-    /// Numbers the names of the text, in which no name stands twice.
+    /// Numbers the names of the text, in which no name stands twice, and those of agents and atoms aren't too many.
     pub(crate) fn new(alloc: Global, text: &'a Parsed) -> Result<Numbered<'a>, Memory>
-        requires { AreNamedOnce (content_of text.now) }
+        requires agents { Holds FewAgents (content_of text.now) }
+        requires atoms { Holds FewAtoms (content_of text.now) }
+        requires named_once { AreNamedOnce (content_of text.now) }
         ensures { IfOk result (λ p. p ≡ text.now) }
     {
         let agents = agent_numbers(alloc, text.agents.as_slice())?;
@@ -57,20 +64,38 @@ impl<'a> Numbered<'a> {
         self.text
     }
 
-    /// The agent of this name, and the number behind the last where there is none.
-    pub(crate) fn agent(&self, name: &Word) -> AgentId
-        requires { HasNumbers (content_of self.now) }
-        ensures { result ≡ agent_in (content_of self.now) name.now.text }
+    /// The agent of this name; an error tells that there is none.
+    pub(crate) fn declared_agent(&self, alloc: Global, name: &Word) -> Result<AgentId, ShapeAnswer>
+        ensures agent { IfOk result (λ agent. agent ≡ agent_in (content_of self.now) name.now.text) }
+        ensures below { IfOk result (λ agent. agent.0 < 16) }
+        ensures declared { Declares result (others (agent_names (content_of self.now)) (name.now ∷ [])) }
     {
-        AgentId(number_of(&self.agents, name))
+        let n = number_of(&self.agents, name);
+        if (n as usize) < self.agents.len() {
+            Ok(AgentId(n))
+        } else {
+            Err(unknown(alloc, name))
+        }
     }
 
     /// The atom of this name, and the number behind the last where there is none.
     pub(crate) fn atom(&self, name: &Word) -> AtomId
-        requires { HasNumbers (content_of self.now) }
         ensures { result.0 ≡ place_of name.now.text (atom_names (content_of self.now)) }
     {
         AtomId(number_of(&self.atoms, name))
+    }
+
+    /// The atom of this name; an error tells that there is none.
+    pub(crate) fn declared_atom(&self, alloc: Global, name: &Word) -> Result<AtomId, ShapeAnswer>
+        ensures atom { IfOk result (λ atom. atom.0 ≡ place_of name.now.text (atom_names (content_of self.now))) }
+        ensures declared { Declares result (others (atom_names (content_of self.now)) (name.now ∷ [])) }
+    {
+        let atom = self.atom(name);
+        if (atom.0 as usize) < self.atoms.len() {
+            Ok(atom)
+        } else {
+            Err(unknown(alloc, name))
+        }
     }
 }
 
@@ -113,4 +138,17 @@ fn number_of(names: &IndexSet<ShortText>, name: &Word) -> u32
     ensures { result ≡ place_of name.now.text names.now.keys }
 {
     names.get_index_of(&name.text).unwrap_or(names.len()) as u32
+}
+
+/// The answer that no agent, or no atom, has this name.
+fn unknown(alloc: Global, name: &Word) -> ShapeAnswer
+    ensures { Tells result (first_unknown (name.now ∷ [])) }
+{
+    match Text::copy(alloc, name.text.as_slice()) {
+        Ok(text) => ShapeAnswer::Off(ShapeFault {
+            line: name.line,
+            kind: ShapeKind::Unknown(text),
+        }),
+        Err(memory) => ShapeAnswer::from(memory),
+    }
 }

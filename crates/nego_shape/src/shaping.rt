@@ -8,8 +8,9 @@ ghost use Rattle.nego_shape.specs.Naming.{diagram_in};
 ghost use Rattle.nego_shape.specs.Conditions.{HasShape};
 ghost use Rattle.nego_shape.specs.Shaped.{HasNameWords};
 
+use crate::checks::counts::count_fault;
 use crate::fault::ShapeAnswer;
-use crate::finding::form_fault;
+use crate::finding::{inner_fault, twice};
 use crate::making::diagram;
 use crate::numbering::Numbered;
 use crate::numbers::atoms_numbers;
@@ -28,10 +29,27 @@ pub fn shape(alloc: Global, p: &Parsed) -> Result<Diagram, ShapeAnswer>
     ensures misshapen { IfErr result (λ e. LacksShape e p.now) }
     ensures joint { IfErr result (λ e. HasJoint e p.now) }
 {
-    if let Some(fault) = form_fault(alloc, p)? {
+    shaped(alloc, p)
+}
+
+/// The same, stage by stage.
+fn shaped(alloc: Global, p: &Parsed) -> Result<Diagram, ShapeAnswer>
+    requires { HasNameWords (content_of p.now) }
+    ensures shaped { IfOk result (λ _. HasShape (content_of p.now)) }
+    ensures content { IfOk result (λ d. d ≡ diagram_in (content_of p.now)) }
+    ensures diagram { IfOk result IsDiagram }
+    ensures err { IfErr result (λ e. HasCause e p.now) }
+{
+    if let Some(fault) = count_fault(p) {
+        return Err(ShapeAnswer::Off(fault));
+    }
+    if let Some(fault) = twice(alloc, p)? {
         return Err(ShapeAnswer::Off(fault));
     }
     let numbered = Numbered::new(alloc, p)?;
     let numbers = atoms_numbers(alloc, &numbered)?;
+    if let Some(fault) = inner_fault(alloc, &numbered, numbers.as_slice())? {
+        return Err(ShapeAnswer::Off(fault));
+    }
     diagram(alloc, &numbered, numbers.as_slice())
 }

@@ -1,31 +1,48 @@
 //! No agent, and too many agents, atoms or outcomes.
 
-ghost use Rattle.std.specs.Prelude.{◌≡◌, ◌≤◌, length, slice_get, map, IfNone};
+ghost use Rattle.std.specs.Prelude.{◌≡◌, [], ◌∷◌, slice_get};
+ghost use Rattle.std.specs.List.{flat_map};
 ghost use Rattle.std.specs.Option.{option_map};
 ghost use Rattle.nego_shape.specs.declared.fault.ShapeKind.TheVariants as kinds;
-ghost use Rattle.nego_shape.specs.Faults.{no_agent, fault_on, out_names, too_many};
+ghost use Rattle.nego_shape.specs.Faults.{first_fault};
+ghost use Rattle.nego_shape.specs.Conditions.{SomeAgent, FewAgents, FewAtoms, FewOutcomes};
 
 use crate::fault::{Many, ShapeFault, ShapeKind};
-use nego_reader::{PAgent, PAtom, Parsed};
+use nego_reader::{PAtom, Parsed};
 
-/// That there is no agent.
-pub(crate) fn no_agent(agents: &[PAgent]) -> Option<ShapeFault>
-    ensures { result ≡ no_agent agents.now }
+/// That there is no agent, or the first agent, atom or outcome that is one too many.
+pub(crate) fn count_fault(p: &Parsed) -> Option<ShapeFault>
+    ensures { result ≡ first_fault (SomeAgent ∷ FewAgents ∷ FewAtoms ∷ FewOutcomes ∷ []) p.now }
 {
-    if agents.is_empty() {
-        Some(ShapeFault {
+    if p.agents.is_empty() {
+        return Some(ShapeFault {
             line: 1,
             kind: ShapeKind::NoAgent,
-        })
-    } else {
-        None
+        });
+    }
+    if let Some(agent) = p.agents.get(16) {
+        return Some(too_many(agent.name.line, Many::Agents));
+    }
+    if let Some(atom) = p.atoms.get(64) {
+        return Some(too_many(atom.name.line, Many::Atoms));
+    }
+    let line = out_line(p.atoms.as_slice(), 256)?;
+    Some(too_many(line, Many::Outcomes))
+}
+
+/// The fault that what stands on the line is one too many.
+fn too_many(line: u32, many: Many) -> ShapeFault
+    ensures { result ≡ record { line = line; kind = kinds.TooMany many } }
+{
+    ShapeFault {
+        line,
+        kind: ShapeKind::TooMany(many),
     }
 }
 
 /// The line of the outcome of a place among all, which counts from 0.
 fn out_line(atoms: &[PAtom], place: usize) -> Option<u32>
-    ensures line { result ≡ option_map (λ word. word.line) (slice_get (out_names atoms.now) place) }
-    ensures few { IfNone result (length (out_names atoms.now) ≤ place) }
+    ensures { result ≡ option_map (λ out. out.name.line) (slice_get (flat_map (λ atom. atom.outs) atoms.now) place) }
 {
     let mut left = place;
     for atom in atoms {
@@ -35,28 +52,4 @@ fn out_line(atoms: &[PAtom], place: usize) -> Option<u32>
         left -= atom.outs.len();
     }
     None
-}
-
-/// The fault that the line is the first with too many.
-fn past(line: Option<u32>, many: Many) -> Option<ShapeFault>
-    ensures { result ≡ option_map (λ n. fault_on n (kinds.TooMany many)) line }
-{
-    let kind = ShapeKind::TooMany(many);
-    Some(ShapeFault { line: line?, kind })
-}
-
-/// The first agent, atom or outcome that is one too many.
-pub(crate) fn too_many(p: &Parsed) -> Option<ShapeFault>
-    ensures fault { result ≡ too_many p.now }
-    ensures agents { IfNone result (length p.now.agents ≤ 16) }
-    ensures atoms { IfNone result (length p.now.atoms ≤ 64) }
-    ensures outcomes { IfNone result (length (out_names p.now.atoms) ≤ 256) }
-{
-    if let Some(agent) = p.agents.get(16) {
-        return past(Some(agent.name.line), Many::Agents);
-    }
-    if let Some(atom) = p.atoms.get(64) {
-        return past(Some(atom.name.line), Many::Atoms);
-    }
-    past(out_line(p.atoms.as_slice(), 256), Many::Outcomes)
 }

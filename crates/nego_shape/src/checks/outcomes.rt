@@ -1,156 +1,286 @@
-//! Agents on the next lines and in the cases of outcomes.
+//! Rules of outcomes, by the numbers of agents and atoms.
 
-ghost use Rattle.std.specs.Prelude.{◌≡◌, ◌+◌, ◌<◌, ◌≤◌, length, position, IfSome};
+ghost use Rattle.std.specs.Prelude.{◌≡◌, ℕ, ◌+◌, ◌<◌, ◌≤◌, ◌==◌, ◌∷◌, length, map, slice_get, Some, All, Contains};
 ghost use Rattle.std.specs.List.{list_any};
-ghost use Rattle.nego_base.specs.Firsts.{first_among};
-ghost use Rattle.nego_shape.specs.Faults.{same, stands_in, out_names, is_last, is_missing, next_missing_at, is_stranger, atom_number, next_stranger_on, next_stranger_at, last_leads_at, case_line, right_names, test_names, term_names, set_names, case_names, is_outside, not_party_on, not_party_at, is_too_large, is_overfull, value_too_large_on, value_too_large_at, broken_at, broken_among, broken_from, broken};
+ghost use Rattle.nego_base.specs.Firsts.{first_among, first_numbered};
+ghost use Rattle.nego_base.specs.Members.{is_in, IsRisingBelow};
+ghost use Rattle.nego_data.specs.CaseForm.{TestBelow, SetBelow, operand_agents, term_agents};
+ghost use Rattle.nego_reader.specs.Content.{content_of, out_content, case_content};
+ghost use Rattle.nego_shape.specs.Naming.{agent_names, atom_names, all_outs, case_in};
+ghost use Rattle.nego_shape.specs.Made.{HasNumbers, placed_at, next_numbers, out_numbers, atom_numbers};
+ghost use Rattle.nego_shape.specs.Shaped.{IsDeclared, case_names, last_number};
+ghost use Rattle.nego_shape.specs.Faults.{faults, first_of, missing, case_line};
+ghost use Rattle.nego_shape.specs.Rules.{condition_by, next_faults, case_faults, out_faults, over_agents};
 
-use super::{is_party_at, is_same, stands_in};
 use crate::fault::{ShapeFault, ShapeKind};
-use nego_base::{AgentId, AtomId, OutcomeId, Word};
-use nego_reader::{PAgent, PAtom, PCase, PNext, POut, PRight, PSet, PTerm, PTest, Parsed};
+use crate::numbering::Numbered;
+use crate::numbers::{AtomNumbers, NextNumbers, OutNumbers};
+use nego_base::{AgentId, AgentSet, OutcomeId};
+use nego_data::cases::{Case, Operand, Set, Term, Test};
+use nego_reader::{PAgent, PAtom, PCase, PNext, POut};
 
-/// A rule of outcomes, named as the fault of an outcome that breaks it.
+/// A rule of outcomes.
 #[derive(Clone, Copy)]
 pub enum Rule {
-    NextMissing,
-    NextStranger,
-    LastLeads,
-    NotParty,
-    ValueTooLarge,
+    /// Each party of another atom than the last stands on a next line.
+    AllSent,
+    /// Who stands on a next line is a party of the outcome's atom and of the next atom.
+    NoStranger,
+    /// An outcome of the last atom has no next line.
+    LastEnds,
+    /// Who stands in a case is a party of the outcome's atom.
+    PartiesAlone,
+    /// A number that is assigned is below its agent's size.
+    NoLargeValue,
 }
 
-/// Whether the atom is the last.
-fn is_last(p: &Parsed, atom: &PAtom) -> bool
-    ensures { result ≡ is_last p.now atom.now }
+/// What breaks the rule first.
+pub(crate) fn broken(rule: Rule, p: &Numbered, numbers: &[AtomNumbers]) -> Option<ShapeFault>
+    requires names { HasNumbers (content_of p.now) }
+    requires outcomes { length (all_outs (content_of p.now)) ≤ 256 }
+    requires numbers { numbers.now ≡ map (atom_numbers (content_of p.now)) p.now.atoms }
+    ensures { result ≡ first_of (faults (condition_by rule) p.now) }
 {
-    is_same(&p.last, &atom.name)
-}
-
-/// Whether the agent stands on one of the next lines.
-fn is_sent(nexts: &[PNext], agent: &Word) -> bool
-    ensures { result ≡ list_any (λ next. stands_in next.agents agent.now) nexts.now }
-{
-    nexts
-        .iter()
-        .any(|next| stands_in(next.agents.as_slice(), agent))
-}
-
-/// Whether the agent is a party of the atom and stands on no next line of the outcome.
-fn is_missing(atom: &PAtom, out: &POut, agent: &PAgent) -> bool
-    ensures { result ≡ is_missing atom.now out.now agent.now }
-{
-    stands_in(atom.parties.as_slice(), &agent.name) && !is_sent(out.nexts.as_slice(), &agent.name)
-}
-
-/// The place of the first agent who is missing.
-fn missing(p: &Parsed, atom: &PAtom, out: &POut) -> Option<usize>
-    ensures { result ≡ position (is_missing atom.now out.now) p.now.agents }
-{
-    p.agents
-        .as_slice()
-        .iter()
-        .position(|agent| is_missing(atom, out, agent))
-}
-
-/// The least party of the atom, which isn't the last, who stands on no next line.
-fn next_missing_at(p: &Parsed, atom: &PAtom, o: usize, out: &POut) -> Option<ShapeFault>
-    requires agents { length p.now.agents ≤ 16 }
-    requires outcome { o < 256 }
-    ensures { result ≡ next_missing_at p.now atom.now o out.now }
-{
-    if is_last(p, atom) {
-        return None;
+    let atoms = p.text().atoms.as_slice();
+    let mut start = 0;
+    for (n, atom) in atoms.iter().enumerate() {
+        if let Some(fault) = broken_from(rule, p, numbers, n, start, atom) {
+            return Some(fault);
+        }
+        start += atom.outs.len();
     }
-    let a = missing(p, atom, out)?;
-    Some(ShapeFault {
-        line: out.name.line,
-        kind: ShapeKind::NextMissing(OutcomeId(o as u32), AgentId(a as u32)),
-    })
+    None
 }
 
-/// Whether the agent stands on the next line, and is no party of the atom or of the next atom.
-fn is_stranger(p: &Parsed, atom: &PAtom, next: &PNext, agent: &PAgent) -> bool
-    ensures { result ≡ is_stranger p.now atom.now next.now agent.now }
+/// What breaks the rule first in the outcomes of atom n, which are numbered from `start` on.
+#[tactic(auto, unfolding(nego_base::specs::Firsts::first_numbered))]
+fn broken_from(
+    rule: Rule,
+    p: &Numbered,
+    numbers: &[AtomNumbers],
+    n: usize,
+    start: usize,
+    atom: &PAtom,
+) -> Option<ShapeFault>
+    requires names { HasNumbers (content_of p.now) }
+    requires numbers { numbers.now ≡ map (atom_numbers (content_of p.now)) p.now.atoms }
+    requires atom { slice_get p.now.atoms n ≡ Some atom.now }
+    requires few { start + length atom.now.outs ≤ 256 }
+    ensures { result ≡ first_numbered (λ i out. first_of (out_faults rule (content_of p.now) n (start + i) out)) 0 atom.now.outs }
 {
-    stands_in(next.agents.as_slice(), &agent.name)
-        && !(stands_in(atom.parties.as_slice(), &agent.name)
-            && is_party_at(p.atoms.as_slice(), &next.atom, agent))
-}
-
-/// The place of the first agent who is a stranger.
-fn stranger(p: &Parsed, atom: &PAtom, next: &PNext) -> Option<usize>
-    ensures { result ≡ position (is_stranger p.now atom.now next.now) p.now.agents }
-{
-    p.agents
-        .as_slice()
-        .iter()
-        .position(|agent| is_stranger(p, atom, next, agent))
-}
-
-/// The place of the first atom of this name.
-fn atom_place(atoms: &[PAtom], name: &Word) -> Option<usize>
-    ensures place { result ≡ position (λ atom. same name.now atom.name) atoms.now }
-    ensures bound { IfSome result (λ n. n < length atoms.now) }
-{
-    atoms.iter().position(|atom| is_same(name, &atom.name))
-}
-
-/// The number of the atom of this name, and the count of the atoms where there is none.
-fn atom_number(atoms: &[PAtom], name: &Word) -> usize
-    ensures number { result ≡ atom_number atoms.now name.now }
-    ensures bound { result ≤ length atoms.now }
-{
-    atom_place(atoms, name).unwrap_or(atoms.len())
-}
-
-/// The least agent on the next line who is a stranger.
-fn next_stranger_on(p: &Parsed, atom: &PAtom, o: usize, next: &PNext) -> Option<ShapeFault>
-    requires agents { length p.now.agents ≤ 16 }
-    requires atoms { length p.now.atoms ≤ 64 }
-    requires outcome { o < 256 }
-    ensures { result ≡ next_stranger_on p.now atom.now o next.now }
-{
-    let a = stranger(p, atom, next)?;
-    let n = atom_number(p.atoms.as_slice(), &next.atom);
-    Some(ShapeFault {
-        line: next.atom.line,
-        kind: ShapeKind::NextStranger(OutcomeId(o as u32), AgentId(a as u32), AtomId(n as u32)),
-    })
-}
-
-/// The first stranger on next lines.
-#[tactic(auto, unfolding(nego_base::specs::Firsts::first_among))]
-fn next_stranger_among(p: &Parsed, atom: &PAtom, o: usize, nexts: &[PNext]) -> Option<ShapeFault>
-    requires agents { length p.now.agents ≤ 16 }
-    requires atoms { length p.now.atoms ≤ 64 }
-    requires outcome { o < 256 }
-    ensures { result ≡ first_among (next_stranger_on p.now atom.now o) nexts.now }
-{
-    for next in nexts {
-        if let Some(fault) = next_stranger_on(p, atom, o, next) {
+    let own = &numbers[n];
+    for (i, out) in atom.outs.as_slice().iter().enumerate() {
+        if let Some(fault) = broken_at(rule, p, numbers, n, start + i, out, &own.outs[i]) {
             return Some(fault);
         }
     }
     None
 }
 
-/// The first next line of the outcome, where the atom is the last.
-fn last_leads_at(p: &Parsed, atom: &PAtom, o: usize, out: &POut) -> Option<ShapeFault>
+/// What breaks the rule first in outcome o, which is one of atom n.
+fn broken_at(
+    rule: Rule,
+    p: &Numbered,
+    numbers: &[AtomNumbers],
+    n: usize,
+    o: usize,
+    out: &POut,
+    own: &OutNumbers,
+) -> Option<ShapeFault>
+    requires names { HasNumbers (content_of p.now) }
+    requires numbers { numbers.now ≡ map (atom_numbers (content_of p.now)) p.now.atoms }
+    requires atom { n < length p.now.atoms }
     requires outcome { o < 256 }
-    ensures { result ≡ last_leads_at p.now atom.now o out.now }
+    requires out { Contains (all_outs (content_of p.now)) (placed_at n (out_content out.now)) }
+    requires own { own.now ≡ out_numbers (content_of p.now) out.now }
+    ensures { result ≡ first_of (out_faults rule (content_of p.now) n o out.now) }
 {
-    if !is_last(p, atom) {
+    match rule {
+        Rule::AllSent => missing(p, numbers, n, o, out, own.nexts.as_slice()),
+        Rule::NoStranger | Rule::LastEnds => {
+            on_nexts(rule, p, numbers, n, o, out, own.nexts.as_slice())
+        }
+        Rule::PartiesAlone | Rule::NoLargeValue => {
+            on_cases(rule, p, numbers, n, o, out, own.cases.as_slice())
+        }
+    }
+}
+
+/// Whether atom n is the last.
+fn is_last(p: &Numbered, n: usize) -> bool
+    requires { HasNumbers (content_of p.now) }
+    ensures { result ≡ (n == last_number (content_of p.now)) }
+{
+    n == p.atom(&p.text().last).0 as usize
+}
+
+/// The least party of atom n, which isn't the last, who stands on no next line.
+fn missing(
+    p: &Numbered,
+    numbers: &[AtomNumbers],
+    n: usize,
+    o: usize,
+    out: &POut,
+    nexts: &[NextNumbers],
+) -> Option<ShapeFault>
+    requires names { HasNumbers (content_of p.now) }
+    requires numbers { numbers.now ≡ map (atom_numbers (content_of p.now)) p.now.atoms }
+    requires atom { n < length p.now.atoms }
+    requires outcome { o < 256 }
+    requires nexts { nexts.now ≡ map (next_numbers (content_of p.now)) out.now.nexts }
+    ensures { result ≡ first_of (missing (content_of p.now) n o out.now) }
+{
+    if is_last(p, n) {
         return None;
     }
-    let next = out.nexts.get(0)?;
+    let a = numbers[n].parties.difference(sent(nexts)).least()?;
     Some(ShapeFault {
-        line: next.atom.line,
-        kind: ShapeKind::LastLeads(OutcomeId(o as u32)),
+        line: out.name.line,
+        kind: ShapeKind::NextMissing(OutcomeId(o as u32), a),
     })
 }
 
-/// The line of a case that names an agent.
+/// Who stands on these next lines.
+fn sent(nexts: &[NextNumbers]) -> AgentSet
+    ensures rising { IsRisingBelow 16 result }
+    ensures members { (a : ℕ) → is_in a result ≡ list_any (λ next. is_in a next.agents) nexts.now }
+{
+    let mut set = AgentSet::none();
+    for next in nexts {
+        set = set.union(next.agents);
+    }
+    set
+}
+
+/// What breaks the rule first on the next lines of the outcome.
+#[tactic(auto, unfolding(nego_base::specs::Firsts::first_among))]
+fn on_nexts(
+    rule: Rule,
+    p: &Numbered,
+    numbers: &[AtomNumbers],
+    n: usize,
+    o: usize,
+    out: &POut,
+    own: &[NextNumbers],
+) -> Option<ShapeFault>
+    requires names { HasNumbers (content_of p.now) }
+    requires numbers { numbers.now ≡ map (atom_numbers (content_of p.now)) p.now.atoms }
+    requires atom { n < length p.now.atoms }
+    requires outcome { o < 256 }
+    requires out { Contains (all_outs (content_of p.now)) (placed_at n (out_content out.now)) }
+    requires own { own.now ≡ map (next_numbers (content_of p.now)) out.now.nexts }
+    ensures { result ≡ first_among (λ next. first_of (next_faults rule (content_of p.now) n o next)) out.now.nexts }
+{
+    for (i, next) in out.nexts.as_slice().iter().enumerate() {
+        if let Some(fault) = on_next(rule, p, numbers, n, o, next, &own[i]) {
+            return Some(fault);
+        }
+    }
+    None
+}
+
+/// What breaks the rule first on the next line.
+fn on_next(
+    rule: Rule,
+    p: &Numbered,
+    numbers: &[AtomNumbers],
+    n: usize,
+    o: usize,
+    next: &PNext,
+    own: &NextNumbers,
+) -> Option<ShapeFault>
+    requires names { HasNumbers (content_of p.now) }
+    requires numbers { numbers.now ≡ map (atom_numbers (content_of p.now)) p.now.atoms }
+    requires atom { n < length p.now.atoms }
+    requires outcome { o < 256 }
+    requires next { IsDeclared (atom_names (content_of p.now)) next.now.atom.text }
+    requires own { own.now ≡ next_numbers (content_of p.now) next.now }
+    ensures { result ≡ first_of (next_faults rule (content_of p.now) n o next.now) }
+{
+    let line = next.atom.line;
+    let o = OutcomeId(o as u32);
+    if let Rule::LastEnds = rule {
+        return if is_last(p, n) {
+            Some(ShapeFault {
+                line,
+                kind: ShapeKind::LastLeads(o),
+            })
+        } else {
+            None
+        };
+    }
+    let parties = numbers[n].parties;
+    let both = parties.difference(parties.difference(numbers[own.atom.0 as usize].parties));
+    let a = own.agents.difference(both).least()?;
+    Some(ShapeFault {
+        line,
+        kind: ShapeKind::NextStranger(o, a, own.atom),
+    })
+}
+
+/// What breaks the rule first in the cases of the outcome.
+#[tactic(auto, unfolding(nego_base::specs::Firsts::first_among))]
+fn on_cases(
+    rule: Rule,
+    p: &Numbered,
+    numbers: &[AtomNumbers],
+    n: usize,
+    o: usize,
+    out: &POut,
+    own: &[Case],
+) -> Option<ShapeFault>
+    requires names { HasNumbers (content_of p.now) }
+    requires numbers { numbers.now ≡ map (atom_numbers (content_of p.now)) p.now.atoms }
+    requires atom { n < length p.now.atoms }
+    requires outcome { o < 256 }
+    requires out { Contains (all_outs (content_of p.now)) (placed_at n (out_content out.now)) }
+    requires own { own.now ≡ map (λ case. case_in (content_of p.now) (case_content case)) out.now.cases }
+    ensures { result ≡ first_among (λ case. first_of (case_faults rule (content_of p.now) n o case)) out.now.cases }
+{
+    for (i, case) in out.cases.as_slice().iter().enumerate() {
+        if let Some(fault) = on_case(rule, p, numbers, n, o, case, &own[i]) {
+            return Some(fault);
+        }
+    }
+    None
+}
+
+/// What breaks the rule first in the case.
+fn on_case(
+    rule: Rule,
+    p: &Numbered,
+    numbers: &[AtomNumbers],
+    n: usize,
+    o: usize,
+    case: &PCase,
+    own: &Case,
+) -> Option<ShapeFault>
+    requires names { HasNumbers (content_of p.now) }
+    requires numbers { numbers.now ≡ map (atom_numbers (content_of p.now)) p.now.atoms }
+    requires atom { n < length p.now.atoms }
+    requires outcome { o < 256 }
+    requires case { All (IsDeclared (agent_names (content_of p.now))) (case_names (case_content case.now)) }
+    requires own { own.now ≡ case_in (content_of p.now) (case_content case.now) }
+    ensures { result ≡ first_of (case_faults rule (content_of p.now) n o case.now) }
+{
+    let line = case_line(case);
+    let o = OutcomeId(o as u32);
+    if let Rule::NoLargeValue = rule {
+        let a = overfull(p.text().agents.as_slice(), own.sets.as_slice()).least()?;
+        return Some(ShapeFault {
+            line,
+            kind: ShapeKind::ValueTooLarge(o, a),
+        });
+    }
+    let named = tested(own.tests.as_slice()).union(assigned(own.sets.as_slice()));
+    let a = named.difference(numbers[n].parties).least()?;
+    Some(ShapeFault {
+        line,
+        kind: ShapeKind::NotParty(o, a),
+    })
+}
+
+/// The line of the first name in the case.
 fn case_line(case: &PCase) -> u32
     ensures { result ≡ case_line case.now }
 {
@@ -161,205 +291,52 @@ fn case_line(case: &PCase) -> u32
     }
 }
 
-fn right_names(agent: &Word, right: &PRight) -> bool
-    ensures { result ≡ right_names agent.now right.now }
+/// Who stands in the comparisons.
+fn tested(tests: &[Test]) -> AgentSet
+    requires { All (TestBelow 16) tests.now }
+    ensures rising { IsRisingBelow 16 result }
+    ensures members { (a : ℕ) → is_in a result ≡ list_any (λ test. is_in a (test.agent.0 ∷ operand_agents test.right)) tests.now }
 {
-    match right {
-        PRight::Number(_) => false,
-        PRight::Name(name) => is_same(agent, name),
-    }
-}
-
-fn test_names(agent: &Word, test: &PTest) -> bool
-    ensures { result ≡ test_names agent.now test.now }
-{
-    is_same(agent, &test.left) || right_names(agent, &test.right)
-}
-
-fn tests_name(agent: &Word, tests: &[PTest]) -> bool
-    ensures { result ≡ list_any (test_names agent.now) tests.now }
-{
-    tests.iter().any(|test| test_names(agent, test))
-}
-
-fn term_names(agent: &Word, term: &PTerm) -> bool
-    ensures { result ≡ term_names agent.now term.now }
-{
-    match term {
-        PTerm::Any | PTerm::Number(_) => false,
-        PTerm::Plus(name, _) | PTerm::Minus(name, _) => is_same(agent, name),
-    }
-}
-
-fn set_names(agent: &Word, set: &PSet) -> bool
-    ensures { result ≡ set_names agent.now set.now }
-{
-    is_same(agent, &set.agent) || term_names(agent, &set.term)
-}
-
-fn sets_name(agent: &Word, sets: &[PSet]) -> bool
-    ensures { result ≡ list_any (set_names agent.now) sets.now }
-{
-    sets.iter().any(|set| set_names(agent, set))
-}
-
-/// Whether the case names the agent, who is no party of the atom.
-fn is_outside(atom: &PAtom, case: &PCase, agent: &PAgent) -> bool
-    ensures { result ≡ is_outside atom.now case.now agent.now }
-{
-    (tests_name(&agent.name, case.tests.as_slice()) || sets_name(&agent.name, case.sets.as_slice()))
-        && !stands_in(atom.parties.as_slice(), &agent.name)
-}
-
-/// The place of the first agent whom the case names and who is no party of the atom.
-fn outside(p: &Parsed, atom: &PAtom, case: &PCase) -> Option<usize>
-    ensures { result ≡ position (is_outside atom.now case.now) p.now.agents }
-{
-    p.agents
-        .as_slice()
-        .iter()
-        .position(|agent| is_outside(atom, case, agent))
-}
-
-/// The least agent whom the case names and who is no party of the atom.
-fn not_party_on(p: &Parsed, atom: &PAtom, o: usize, case: &PCase) -> Option<ShapeFault>
-    requires agents { length p.now.agents ≤ 16 }
-    requires outcome { o < 256 }
-    ensures { result ≡ not_party_on p.now atom.now o case.now }
-{
-    let a = outside(p, atom, case)?;
-    Some(ShapeFault {
-        line: case_line(case),
-        kind: ShapeKind::NotParty(OutcomeId(o as u32), AgentId(a as u32)),
-    })
-}
-
-/// The first agent in cases who is no party of the atom.
-#[tactic(auto, unfolding(nego_base::specs::Firsts::first_among))]
-fn not_party_among(p: &Parsed, atom: &PAtom, o: usize, cases: &[PCase]) -> Option<ShapeFault>
-    requires agents { length p.now.agents ≤ 16 }
-    requires outcome { o < 256 }
-    ensures { result ≡ first_among (not_party_on p.now atom.now o) cases.now }
-{
-    for case in cases {
-        if let Some(fault) = not_party_on(p, atom, o, case) {
-            return Some(fault);
+    let mut set = AgentSet::none();
+    for test in tests {
+        set = set.with(test.agent);
+        if let Operand::Value(b) = test.right {
+            set = set.with(b);
         }
     }
-    None
+    set
 }
 
-/// Whether the term is a constant that isn't below the size.
-fn is_too_large(size: u32, term: &PTerm) -> bool
-    ensures { result ≡ is_too_large size term.now }
+/// Who stands in the assignments.
+fn assigned(sets: &[Set]) -> AgentSet
+    requires { All (SetBelow 16) sets.now }
+    ensures rising { IsRisingBelow 16 result }
+    ensures members { (a : ℕ) → is_in a result ≡ list_any (λ set. is_in a (set.agent.0 ∷ term_agents set.term)) sets.now }
 {
-    match term {
-        PTerm::Number(n) => size <= *n,
-        PTerm::Any | PTerm::Plus(_, _) | PTerm::Minus(_, _) => false,
-    }
-}
-
-/// Whether the case assigns the agent a constant that isn't below its size.
-fn is_overfull(case: &PCase, agent: &PAgent) -> bool
-    ensures { result ≡ is_overfull case.now agent.now }
-{
-    case.sets.as_slice().iter().any(|set| is_same(&agent.name, &set.agent)
-        && is_too_large(agent.size, &set.term))
-}
-
-/// The place of the first agent whom the case assigns such a constant.
-fn overfull(p: &Parsed, case: &PCase) -> Option<usize>
-    ensures { result ≡ position (is_overfull case.now) p.now.agents }
-{
-    p.agents
-        .as_slice()
-        .iter()
-        .position(|agent| is_overfull(case, agent))
-}
-
-/// The least agent whom the case assigns such a constant.
-fn value_too_large_on(p: &Parsed, o: usize, case: &PCase) -> Option<ShapeFault>
-    requires agents { length p.now.agents ≤ 16 }
-    requires outcome { o < 256 }
-    ensures { result ≡ value_too_large_on p.now o case.now }
-{
-    let a = overfull(p, case)?;
-    Some(ShapeFault {
-        line: case_line(case),
-        kind: ShapeKind::ValueTooLarge(OutcomeId(o as u32), AgentId(a as u32)),
-    })
-}
-
-/// The first agent whom a case assigns such a constant.
-#[tactic(auto, unfolding(nego_base::specs::Firsts::first_among))]
-fn value_too_large_among(p: &Parsed, o: usize, cases: &[PCase]) -> Option<ShapeFault>
-    requires agents { length p.now.agents ≤ 16 }
-    requires outcome { o < 256 }
-    ensures { result ≡ first_among (value_too_large_on p.now o) cases.now }
-{
-    for case in cases {
-        if let Some(fault) = value_too_large_on(p, o, case) {
-            return Some(fault);
+    let mut named = AgentSet::none();
+    for set in sets {
+        named = named.with(set.agent);
+        if let Term::Plus(b, _) | Term::Minus(b, _) = set.term {
+            named = named.with(b);
         }
     }
-    None
+    named
 }
 
-/// What the outcome of this number and atom breaks of the rule.
-fn broken_at(rule: Rule, p: &Parsed, atom: &PAtom, o: usize, out: &POut) -> Option<ShapeFault>
-    requires agents { length p.now.agents ≤ 16 }
-    requires atoms { length p.now.atoms ≤ 64 }
-    requires outcome { o < 256 }
-    ensures { result ≡ broken_at rule p.now atom.now o out.now }
+/// Who is assigned a number that isn't below its size.
+fn overfull(agents: &[PAgent], sets: &[Set]) -> AgentSet
+    requires agents { length agents.now ≤ 16 }
+    requires sets { All (λ set. set.agent.0 < length agents.now) sets.now }
+    ensures rising { IsRisingBelow 16 result }
+    ensures members { (a : ℕ) → is_in a result ≡ list_any (λ set. is_in a (over_agents (map (λ agent. agent.size) agents.now) set)) sets.now }
 {
-    match rule {
-        Rule::NextMissing => next_missing_at(p, atom, o, out),
-        Rule::NextStranger => next_stranger_among(p, atom, o, out.nexts.as_slice()),
-        Rule::LastLeads => last_leads_at(p, atom, o, out),
-        Rule::NotParty => not_party_among(p, atom, o, out.cases.as_slice()),
-        Rule::ValueTooLarge => value_too_large_among(p, o, out.cases.as_slice()),
-    }
-}
-
-/// What the outcomes of the atom, numbered from o on, break of the rule first.
-#[tactic(auto, unfolding(nego_base::specs::Firsts::first_numbered))]
-fn broken_among(rule: Rule, p: &Parsed, atom: &PAtom, o: usize, outs: &[POut]) -> Option<ShapeFault>
-    requires agents { length p.now.agents ≤ 16 }
-    requires atoms { length p.now.atoms ≤ 64 }
-    requires outcomes { o + length outs.now ≤ 256 }
-    ensures { result ≡ broken_among rule p.now atom.now o outs.now }
-{
-    for (i, out) in outs.iter().enumerate() {
-        if let Some(fault) = broken_at(rule, p, atom, o + i, out) {
-            return Some(fault);
+    let mut over = AgentSet::none();
+    for set in sets {
+        if let Term::Number(n) = set.term {
+            if agents[set.agent.0 as usize].size <= n {
+                over = over.with(set.agent);
+            }
         }
     }
-    None
-}
-
-/// What the outcomes of the atoms break of the rule first.
-fn broken_in(rule: Rule, p: &Parsed, atoms: &[PAtom]) -> Option<ShapeFault>
-    requires agents { length p.now.agents ≤ 16 }
-    requires atoms { length p.now.atoms ≤ 64 }
-    requires outcomes { length (out_names atoms.now) ≤ 256 }
-    ensures { result ≡ broken_from rule p.now 0 atoms.now }
-{
-    let mut o = 0;
-    for atom in atoms {
-        if let Some(fault) = broken_among(rule, p, atom, o, atom.outs.as_slice()) {
-            return Some(fault);
-        }
-        o += atom.outs.len();
-    }
-    None
-}
-
-/// What an outcome breaks of the rule first.
-pub(crate) fn broken(rule: Rule, p: &Parsed) -> Option<ShapeFault>
-    requires agents { length p.now.agents ≤ 16 }
-    requires atoms { length p.now.atoms ≤ 64 }
-    requires outcomes { length (out_names p.now.atoms) ≤ 256 }
-    ensures { result ≡ broken rule p.now }
-{
-    broken_in(rule, p, p.atoms.as_slice())
+    over
 }

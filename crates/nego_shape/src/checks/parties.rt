@@ -1,102 +1,109 @@
 //! Atoms without parties or outcomes, and agents who are no party of the first or the last atom.
 
-ghost use Rattle.std.specs.Prelude.{◌≡◌, ◌<◌, ◌≤◌, not, length, position, option_map};
+ghost use Rattle.std.specs.Prelude.{◌≡◌, ◌≤◌, ◌==◌, [], ◌∷◌, length, map};
+ghost use Rattle.std.specs.Option.{option_map};
+ghost use Rattle.nego_base.specs.declared.ids.AgentId.{AgentId};
+ghost use Rattle.nego_reader.specs.Content.{content_of};
+ghost use Rattle.nego_shape.specs.declared.fault.ShapeKind.{ShapeKind};
 ghost use Rattle.nego_shape.specs.declared.fault.ShapeKind.TheVariants as kinds;
-ghost use Rattle.nego_shape.specs.Faults.{no_party_at, no_party, no_outcome_at, no_outcome, is_party_at, lacks};
+ghost use Rattle.nego_shape.specs.Faults.{spot_if, numbered, faults, first_of, first_fault, lacking};
+ghost use Rattle.nego_shape.specs.Conditions.{SomeParty, SomeOutcome, AllBegin, AllEnd};
+ghost use Rattle.nego_shape.specs.Made.{HasNumbers, atom_numbers};
+ghost use Rattle.nego_shape.specs.Naming.{atom_names};
+ghost use Rattle.nego_shape.specs.Shaped.{IsDeclared};
 
-use super::is_party_at;
 use crate::fault::{ShapeFault, ShapeKind};
-use nego_base::{AgentId, AtomId, Word};
-use nego_reader::{PAtom, Parsed};
+use crate::numbering::Numbered;
+use crate::numbers::AtomNumbers;
+use nego_base::{AgentId, AgentSet, AtomId, Word};
+use nego_reader::PAtom;
 
-/// That the atom of this number has no party.
-fn no_party_at(n: usize, atom: &PAtom) -> Option<ShapeFault>
-    requires { n < 64 }
-    ensures { result ≡ no_party_at n atom.now }
+/// The first atom without a party, else the first without an outcome, else the least agent who is no party of the first
+/// atom, else the least who is none of the last.
+#[tactic(auto, unfolding(nego_base::specs::Firsts::first_among))]
+pub(crate) fn party_fault(p: &Numbered, numbers: &[AtomNumbers]) -> Option<ShapeFault>
+    requires names { HasNumbers (content_of p.now) }
+    requires numbers { numbers.now ≡ map (atom_numbers (content_of p.now)) p.now.atoms }
+    ensures { result ≡ first_fault (SomeParty ∷ SomeOutcome ∷ AllBegin ∷ AllEnd ∷ []) p.now }
 {
-    if atom.parties.is_empty() {
-        Some(ShapeFault {
-            line: atom.name.line,
-            kind: ShapeKind::NoParty(AtomId(n as u32)),
-        })
-    } else {
-        None
+    let atoms = p.text().atoms.as_slice();
+    if let Some(fault) = no_party(atoms).or_else(|| no_outcome(atoms)) {
+        return Some(fault);
     }
+    if let Some(fault) = first_lacks(p, numbers) {
+        return Some(fault);
+    }
+    last_lacks(p, numbers)
 }
 
 /// The first atom without a party.
-#[tactic(auto, unfolding(nego_base::specs::Firsts::first_numbered))]
-pub(crate) fn no_party(atoms: &[PAtom]) -> Option<ShapeFault>
+#[tactic(auto, unfolding(crate::specs::Faults::numbered))]
+fn no_party(atoms: &[PAtom]) -> Option<ShapeFault>
     requires { length atoms.now ≤ 64 }
-    ensures { result ≡ no_party atoms.now }
+    ensures { result ≡ first_of (numbered (λ n atom. spot_if (length atom.parties == 0) atom.name.line (kinds.NoParty (record { 0 = n }))) 0 atoms.now) }
 {
-    for (i, atom) in atoms.iter().enumerate() {
-        if let Some(fault) = no_party_at(i, atom) {
-            return Some(fault);
+    for (n, atom) in atoms.iter().enumerate() {
+        if atom.parties.is_empty() {
+            return Some(ShapeFault {
+                line: atom.name.line,
+                kind: ShapeKind::NoParty(AtomId(n as u32)),
+            });
         }
     }
     None
-}
-
-/// That the atom of this number has no outcome.
-fn no_outcome_at(n: usize, atom: &PAtom) -> Option<ShapeFault>
-    requires { n < 64 }
-    ensures { result ≡ no_outcome_at n atom.now }
-{
-    if atom.outs.is_empty() {
-        Some(ShapeFault {
-            line: atom.name.line,
-            kind: ShapeKind::NoOutcome(AtomId(n as u32)),
-        })
-    } else {
-        None
-    }
 }
 
 /// The first atom without an outcome.
-#[tactic(auto, unfolding(nego_base::specs::Firsts::first_numbered))]
-pub(crate) fn no_outcome(atoms: &[PAtom]) -> Option<ShapeFault>
+#[tactic(auto, unfolding(crate::specs::Faults::numbered))]
+fn no_outcome(atoms: &[PAtom]) -> Option<ShapeFault>
     requires { length atoms.now ≤ 64 }
-    ensures { result ≡ no_outcome atoms.now }
+    ensures { result ≡ first_of (numbered (λ n atom. spot_if (length atom.outs == 0) atom.name.line (kinds.NoOutcome (record { 0 = n }))) 0 atoms.now) }
 {
-    for (i, atom) in atoms.iter().enumerate() {
-        if let Some(fault) = no_outcome_at(i, atom) {
-            return Some(fault);
+    for (n, atom) in atoms.iter().enumerate() {
+        if atom.outs.is_empty() {
+            return Some(ShapeFault {
+                line: atom.name.line,
+                kind: ShapeKind::NoOutcome(AtomId(n as u32)),
+            });
         }
     }
     None
 }
 
-/// The place of the first agent who is no party of the atom of this name.
-fn lacking(p: &Parsed, name: &Word) -> Option<usize>
-    ensures { result ≡ position (λ agent. not (is_party_at p.now.atoms name.now agent)) p.now.agents }
+/// The least agent who is no party of the atom of this name.
+fn lacking(p: &Numbered, numbers: &[AtomNumbers], name: &Word) -> Option<AgentId>
+    requires names { HasNumbers (content_of p.now) }
+    requires numbers { numbers.now ≡ map (atom_numbers (content_of p.now)) p.now.atoms }
+    requires declared { IsDeclared (atom_names (content_of p.now)) name.now.text }
+    ensures { (kind : AgentId → ShapeKind) → first_of (lacking (content_of p.now) kind name.now) ≡ option_map (λ a. record { line = name.now.line; kind = kind a }) result }
 {
-    p.agents
-        .as_slice()
-        .iter()
-        .position(|agent| !is_party_at(p.atoms.as_slice(), name, agent))
+    let count = p.text().agents.len() as u32;
+    let parties = numbers[p.atom(name).0 as usize].parties;
+    AgentSet::below(count).difference(parties).least()
 }
 
 /// The least agent who is no party of the first atom.
-pub(crate) fn first_lacks(p: &Parsed) -> Option<ShapeFault>
-    requires { length p.now.agents ≤ 16 }
-    ensures { result ≡ lacks kinds.FirstLacks p.now.first p.now }
+fn first_lacks(p: &Numbered, numbers: &[AtomNumbers]) -> Option<ShapeFault>
+    requires names { HasNumbers (content_of p.now) }
+    requires numbers { numbers.now ≡ map (atom_numbers (content_of p.now)) p.now.atoms }
+    ensures { result ≡ first_of (faults AllBegin p.now) }
 {
-    let a = lacking(p, &p.first)?;
-    Some(ShapeFault {
-        line: p.first.line,
-        kind: ShapeKind::FirstLacks(AgentId(a as u32)),
+    let first = &p.text().first;
+    lacking(p, numbers, first).map(|a| ShapeFault {
+        line: first.line,
+        kind: ShapeKind::FirstLacks(a),
     })
 }
 
 /// The least agent who is no party of the last atom.
-pub(crate) fn last_lacks(p: &Parsed) -> Option<ShapeFault>
-    requires { length p.now.agents ≤ 16 }
-    ensures { result ≡ lacks kinds.LastLacks p.now.last p.now }
+fn last_lacks(p: &Numbered, numbers: &[AtomNumbers]) -> Option<ShapeFault>
+    requires names { HasNumbers (content_of p.now) }
+    requires numbers { numbers.now ≡ map (atom_numbers (content_of p.now)) p.now.atoms }
+    ensures { result ≡ first_of (faults AllEnd p.now) }
 {
-    let a = lacking(p, &p.last)?;
-    Some(ShapeFault {
-        line: p.last.line,
-        kind: ShapeKind::LastLacks(AgentId(a as u32)),
+    let last = &p.text().last;
+    lacking(p, numbers, last).map(|a| ShapeFault {
+        line: last.line,
+        kind: ShapeKind::LastLacks(a),
     })
 }

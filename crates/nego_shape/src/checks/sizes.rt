@@ -1,9 +1,10 @@
 //! The sizes of agents' data.
 
-ghost use Rattle.std.specs.Prelude.{◌≡◌, ◌<◌, ◌≤◌, length, map, slice_get, Some, IfOk};
+ghost use Rattle.std.specs.Prelude.{◌≡◌, ◌<◌, ◌≤◌, [], ◌∷◌, length, map, slice_get, Some, IfOk};
 ghost use Rattle.nego_data.specs.Sizes.{HasFault};
 ghost use Rattle.nego_reader.specs.declared.parsed.PAgent.{PAgent};
-ghost use Rattle.nego_shape.specs.Faults.{fault_on, size_fault};
+ghost use Rattle.nego_shape.specs.Faults.{first_fault};
+ghost use Rattle.nego_shape.specs.Conditions.{NoZeroSize, NoLargeSize, NoLargeJoint};
 
 use crate::fault::{ShapeFault, ShapeKind};
 use crate::sizing::numbers_of;
@@ -16,7 +17,7 @@ use std::alloc::Global;
 pub(crate) fn size_fault(alloc: Global, p: &Parsed) -> Result<Option<ShapeFault>, Memory>
     requires some_agent { 0 < length p.now.agents }
     requires few_agents { length p.now.agents ≤ 16 }
-    ensures { IfOk result (λ fault. fault ≡ size_fault p.now) }
+    ensures { IfOk result (λ fault. fault ≡ first_fault (NoZeroSize ∷ NoLargeSize ∷ NoLargeJoint ∷ []) p.now) }
 {
     let sizes = numbers_of(alloc, p)?;
     match Sizes::new(sizes.as_slice()) {
@@ -28,7 +29,7 @@ pub(crate) fn size_fault(alloc: Global, p: &Parsed) -> Result<Option<ShapeFault>
 /// The fault of shape that the fault of the agents' sizes is.
 fn told(p: &Parsed, fault: SizeFault) -> ShapeFault
     requires { HasFault (map (λ agent. agent.size) p.now.agents) fault }
-    ensures { size_fault p.now ≡ Some result }
+    ensures { first_fault (NoZeroSize ∷ NoLargeSize ∷ NoLargeJoint ∷ []) p.now ≡ Some result }
 {
     match fault {
         SizeFault::ZeroSize(a) => fault_of(p, a, ShapeKind::ZeroSize(a)),
@@ -40,7 +41,7 @@ fn told(p: &Parsed, fault: SizeFault) -> ShapeFault
 /// A fault of the agent, on the agent's line.
 fn fault_of(p: &Parsed, a: AgentId, kind: ShapeKind) -> ShapeFault
     requires { a.0 < length p.now.agents }
-    ensures { (agent : PAgent) → slice_get p.now.agents a.0 ≡ Some agent → result ≡ fault_on agent.name.line kind }
+    ensures { (agent : PAgent) → slice_get p.now.agents a.0 ≡ Some agent → result ≡ record { line = agent.name.line; kind = kind } }
 {
     ShapeFault {
         line: p.agents[a.0 as usize].name.line,

@@ -1,4 +1,4 @@
-use Rattle.std.proofs.Common.{◌≡◌, ◌+◌, ◌<◌, length, None, sym, ap, subst, ◌∙◌, arith, length-append}
+use Rattle.std.proofs.Common.{◌≡◌, ◌+◌, ◌<◌, [], length, drop, sym, ap, subst, ◌∙◌, arith, length-append}
 use Rattle.std.specs.List.{All, Contains}
 use Rattle.std.proofs.lemmas.List.{length-map}
 use Rattle.std.proofs.lemmas.Result.{err_from_is_err_and}
@@ -8,14 +8,13 @@ use Rattle.nego_model.specs.Parts.{plain_outcome}
 use Rattle.nego_reader.specs.declared.parsed.POut.{POut}
 use Rattle.nego_reader.specs.Content.{content_of, out_content}
 use Rattle.nego_shape.specs.Answer.{Tells}
-use Rattle.nego_shape.specs.Faults.{not_total_at, not_total_among}
+use Rattle.nego_shape.specs.Faults.{numbered, uncovered, first_of}
 use Rattle.nego_shape.specs.Naming.{all_outs, outcome_in, parties_at}
 use Rattle.nego_shape.specs.Made.{placed_at, out_numbers}
 use Rattle.std.proofs.lemmas.Option.{get_or_from_slice_get}
 use Rattle.nego_shape.proofs.Gathering.{made_at}
-use Rattle.nego_shape.proofs.FirstLaws.{numbered_goes_on, numbered_done}
 use Rattle.nego_shape.proofs.PartsMade.{one_more_made}
-use Rattle.nego_shape.proofs.TotalLaws.{told_numbered}
+use Rattle.nego_shape.proofs.Telling.{items_go_on, items_done, items_told}
 use Rattle.nego_shape.proofs.Places.{parties_at-below}
 use Rattle.nego_shape.proofs.making.add_outcomes.Goals as goal
 
@@ -31,8 +30,8 @@ returns-in_err-outcome_part-clause-err c =
     let e = c.in_err-outcome_part.field-0.0 in
     let told = err_from_is_err_and c.from_residual.result c.from_residual.ensures.1 in
     rw (told.1, told.2)
-    (told_numbered (λ k out. not_total_at p (base + k) out) e c.args.outs.now i i c.index-outs-i.result (not_total_among p base c.args.outs.now) c.loop-i-test.true c.index-outs-i.is
-    (subst (λ o. Tells e (not_total_at p o c.index-outs-i.result)) (c.len.ensures ∙ c.loop-i.invariant.count) c.in_err-outcome_part.ensures.err) c.loop-i.invariant.total)
+    (items_told (uncovered (content_of p)) e c.args.outs.now i (length c.loop-i.outcomes) c.index-outs-i.result (numbered (uncovered (content_of p)) base c.args.outs.now) c.loop-i-test.true c.index-outs-i.is
+    (subst (λ o. Tells e (first_of (uncovered (content_of p) o c.index-outs-i.result))) c.len.ensures c.in_err-outcome_part.ensures.err) c.loop-i.invariant.total)
 
 pub loop-i-preserved : goal.loop-i-preserved
 loop-i-preserved c =
@@ -48,8 +47,10 @@ loop-i-preserved c =
       count = omega (arith, long, before, length-append {A = OutcomePart});
       sizes = ap (λ (m : MakerState). m.sizes) c.outcome_part.ensures.maker ∙ c.loop-i.invariant.sizes;
       parties = ap (λ (m : MakerState). m.parties) c.outcome_part.ensures.maker ∙ c.loop-i.invariant.parties;
-      total = numbered_goes_on (λ k out. not_total_at p (base + k) out) c.args.outs.now i i c.index-outs-i.result (not_total_among p base c.args.outs.now) c.loop-i-test.true c.index-outs-i.is
-          (subst (λ o. not_total_at p o c.index-outs-i.result ≡ None) (c.len.ensures ∙ before) c.in_ok-outcome_part.ensures.total) c.loop-i.invariant.total;
+      total = (let more : length c.push.new.self ≡ length c.loop-i.outcomes + 1 = omega (arith, long, length-append {A = OutcomePart}) in
+          subst (λ o. numbered (uncovered (content_of p)) o (drop (i + 1) c.args.outs.now) ≡ numbered (uncovered (content_of p)) base c.args.outs.now) (sym more)
+          (items_go_on (uncovered (content_of p)) c.args.outs.now i (length c.loop-i.outcomes) c.index-outs-i.result (numbered (uncovered (content_of p)) base c.args.outs.now) c.loop-i-test.true c.index-outs-i.is
+          (subst (λ o. uncovered (content_of p) o c.index-outs-i.result ≡ []) c.len.ensures c.in_ok-outcome_part.ensures.total) c.loop-i.invariant.total));
     }
 
 pub returns-clause-total : goal.returns-clause-total
@@ -57,7 +58,7 @@ returns-clause-total c =
     let p = c.args.p.now in
     let base = length c.args.outcomes.now in
     let i = c.loop-i.i in
-    sym (numbered_done (λ k out. not_total_at p (base + k) out) c.args.outs.now i i (not_total_among p base c.args.outs.now) c.loop-i-test.false c.loop-i.invariant.total)
+    items_done (uncovered (content_of p)) c.args.outs.now i (length c.loop-i.outcomes) (numbered (uncovered (content_of p)) base c.args.outs.now) c.loop-i-test.false c.loop-i.invariant.total
 
 pub outcome_part-requires-clause-numbers : goal.outcome_part-requires-clause-numbers
 outcome_part-requires-clause-numbers c =

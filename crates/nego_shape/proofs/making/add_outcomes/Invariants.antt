@@ -1,8 +1,7 @@
 use Rattle.std.proofs.Common.{◌≡◌, ◌+◌, ◌++◌, length, map, take, drop}
-use Rattle.nego_base.specs.Firsts.{first_numbered}
 use Rattle.nego_model.specs.Parts.{plain_outcome}
 use Rattle.nego_reader.specs.Content.{content_of, out_content}
-use Rattle.nego_shape.specs.Faults.{not_total_at, not_total_among}
+use Rattle.nego_shape.specs.Faults.{numbered, uncovered}
 use Rattle.nego_shape.specs.Naming.{outcome_in, parties_at, sizes_in}
 use Rattle.nego_shape.specs.Made.{placed_at}
 use Rattle.nego_shape.proofs.making.add_outcomes.Given as goal
@@ -14,5 +13,5 @@ invariant-loop-i l = record {
   count : length l.outcomes ≡ length l.initial.outcomes + l.i;
   sizes : l.maker.sizes ≡ sizes_in (content_of l.p);
   parties : l.maker.parties ≡ parties_at (content_of l.p) l.n;
-  total : first_numbered (λ i out. not_total_at l.p (length l.initial.outcomes + i) out) l.i (drop l.i l.outs) ≡ not_total_among l.p (length l.initial.outcomes) l.outs;
+  total : numbered (uncovered (content_of l.p)) (length l.outcomes) (drop l.i l.outs) ≡ numbered (uncovered (content_of l.p)) (length l.initial.outcomes) l.outs;
 }

@@ -3,10 +3,10 @@ use Rattle.nego_data.specs.Sizes.{AreSizes}
 use Rattle.nego_reader.specs.declared.parsed.Parsed.{Parsed}
 use Rattle.nego_reader.specs.Content.{content_of}
 use Rattle.nego_shape.specs.Naming.{place_of, atom_names, sizes_in}
-use Rattle.nego_shape.proofs.ConditionLaws.{form_shape}
+use Rattle.nego_shape.proofs.FormLaws.{form_shape}
 use Rattle.nego_shape.proofs.ShapedDiagrams.{shaped-parts}
 use Rattle.nego_shape.proofs.PartsMade.{diagram_made}
-use Rattle.nego_shape.proofs.SoundShape.{total}
+use Rattle.nego_shape.proofs.RuleLists.{clear_all_covered}
 use Rattle.nego_shape.proofs.making.diagram.Goals as goal
 
 pub sizes_of-requires : goal.sizes_of-requires
@@ -19,7 +19,7 @@ pub from_parts-requires : goal.from_parts-requires
 from_parts-requires c =
     let p = c.args.p.now in
     let same = c.text-text.ensures in
-    shaped-parts (content_of p) (form_shape (content_of p) c.requires.shaped (total p c.in_ok-outcomes.ensures.total)) c.requires.named _
+    shaped-parts (content_of p) (form_shape (content_of p) c.requires.shaped (clear_all_covered p c.in_ok-outcomes.ensures.total)) c.requires.named _
     (diagram_made p c.in_ok-agents.agents c.in_ok-sizes.sizes c.in_ok-atoms.atoms c.in_ok-outcomes.outcomes c.atom.result.0 c.atom-2.result.0
     (c.in_ok-agents.ensures ∙ ap (λ (q : Parsed). map (λ agent. agent.name.text) q.agents) same) (c.in_ok-sizes.ensures ∙ ap (λ (q : Parsed). sizes_in (content_of q)) same) c.in_ok-atoms.ensures c.in_ok-outcomes.ensures.parts
     (c.atom.ensures ∙ ap (λ (q : Parsed). place_of q.first.text (atom_names (content_of p))) same) (c.atom-2.ensures ∙ ap (λ (q : Parsed). place_of q.last.text (atom_names (content_of p))) same)) c.in_ok-atoms.ensures

@@ -12,11 +12,12 @@ use Rattle.nego_reader.specs.declared.parsed.PAtom.{PAtom}
 use Rattle.nego_reader.specs.declared.parsed.POut.{POut}
 use Rattle.nego_reader.specs.Content.{AtomContent, content_of, atom_content, out_content}
 use Rattle.nego_shape.specs.Answer.{Tells}
-use Rattle.nego_shape.specs.Faults.{not_total_among, not_total_from, not_total}
+use Rattle.nego_shape.specs.Faults.{numbered, each_out, uncovered, faults, first_of}
+use Rattle.nego_shape.specs.Conditions.{AllCovered}
 use Rattle.nego_shape.specs.Naming.{all_outs, outcome_in, parties_in}
 use Rattle.nego_shape.specs.Made.{placed_at, out_numbers, atom_numbers}
 use Rattle.nego_shape.proofs.PartsMade.{outs_are_placed, outs_cut, few_made, more_made}
-use Rattle.nego_shape.proofs.TotalLaws.{partial_told, partial_goes_on, partial_done}
+use Rattle.nego_shape.proofs.Telling.{outs_told, outs_go_on, outs_done}
 use Rattle.nego_shape.proofs.making.outcomes_of.Goals as goal
 
 pub add_outcomes-requires-clause-outs : goal.add_outcomes-requires-clause-outs
@@ -52,8 +53,8 @@ loop-n-preserved c =
     let more = more_made (plain_outcome (length p.agents)) (λ (out : POut). outcome_in (content_of p) (placed_at n (out_content out))) c.loop-n.outcomes c.add_outcomes.new.outcomes atom.outs put in
     record {
       parts = outs_cut p n atom (plain c.loop-n.outcomes) (plain c.add_outcomes.new.outcomes) (map (outcome_in (content_of p)) (all_outs (content_of p))) below is put c.loop-n.invariant.parts;
-      total = ap (λ k. not_total_from p k (drop (n + 1) p.atoms)) more
-          ∙ partial_goes_on p p.atoms n (length c.loop-n.outcomes) atom (not_total p) below is (sym (ap (not_total_among p (length c.loop-n.outcomes)) c.as_slice.ensures) ∙ c.in_ok-add_outcomes.ensures.total) c.loop-n.invariant.total;
+      total = ap (λ k. each_out (λ m o out. uncovered (content_of p) o out) (n + 1) k (drop (n + 1) p.atoms)) more
+          ∙ outs_go_on (λ m o out. uncovered (content_of p) o out) p.atoms n (length c.loop-n.outcomes) atom (faults AllCovered p) below is (sym (ap (numbered (uncovered (content_of p)) (length c.loop-n.outcomes)) c.as_slice.ensures) ∙ c.in_ok-add_outcomes.ensures.total) c.loop-n.invariant.total;
     }
 
 pub returns-in_err-add_outcomes-clause-err : goal.returns-in_err-add_outcomes-clause-err
@@ -67,14 +68,14 @@ returns-in_err-add_outcomes-clause-err c =
     let below : n < length p.atoms = subst (λ (atoms : List PAtom). n < length atoms) same c.loop-n-test.true in
     let is : atom ≡ get_or p.atoms n atom = subst (λ (atoms : List PAtom). atom ≡ get_or atoms n atom) same c.index-atoms-n.is in
     let told = err_from_is_err_and c.from_residual.result c.from_residual.ensures.1 in
-    rw (told.1, told.2) (partial_told p e p.atoms n o atom (not_total p) below is (subst (λ (outs : List POut). Tells e (not_total_among p o outs)) c.as_slice.ensures c.in_err-add_outcomes.ensures.err) c.loop-n.invariant.total)
+    rw (told.1, told.2) (outs_told (λ m k out. uncovered (content_of p) k out) e p.atoms n o atom (faults AllCovered p) below is (subst (λ (outs : List POut). Tells e (first_of (numbered (uncovered (content_of p)) o outs))) c.as_slice.ensures c.in_err-add_outcomes.ensures.err) c.loop-n.invariant.total)
 
 pub returns-clause-total : goal.returns-clause-total
 returns-clause-total c =
     let p = c.args.p.now in
     let n = c.loop-n.n in
     let same = c.as_slice-atoms.ensures ∙ ap (λ (q : Parsed). q.atoms) c.text.ensures in
-    partial_done p p.atoms n (length c.loop-n.outcomes) (not_total p) (subst (λ (atoms : List PAtom). length atoms ≤ n) same c.loop-n-test.false) c.loop-n.invariant.total
+    outs_done (λ m o out. uncovered (content_of p) o out) p.atoms n (length c.loop-n.outcomes) (faults AllCovered p) (subst (λ (atoms : List PAtom). length atoms ≤ n) same c.loop-n-test.false) c.loop-n.invariant.total
 
 pub add_outcomes-requires-clause-parties : goal.add_outcomes-requires-clause-parties
 add_outcomes-requires-clause-parties c =

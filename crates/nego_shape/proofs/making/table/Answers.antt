@@ -1,20 +1,17 @@
-use Rattle.std.proofs.Common.{◌≡◌, List, map, Some, None, sym, ap, subst, ◌∙◌}
+use Rattle.std.proofs.Common.{◌≡◌, List, map, sym, subst, ◌∙◌}
 use Rattle.std.specs.List.{All}
-use Rattle.std.specs.Option.{option_map}
 use Rattle.std.proofs.lemmas.List.Elements.{All-contains}
 use Rattle.nego_data.specs.declared.cases.Case.{Case}
 use Rattle.nego_data.specs.Cases.{rows_of}
-use Rattle.nego_data.specs.CaseForm.{NamesOnly, AssignsOnce, AssignsBelow, IsFirstUncovered, HasTableFault, first_uncovered}
+use Rattle.nego_data.specs.CaseForm.{NamesOnly, AssignsOnce, AssignsBelow, AllCovered, IsFirstUncovered, HasTableFault}
 use Rattle.nego_reader.specs.Content.{content_of, out_content, case_content}
-use Rattle.nego_shape.specs.declared.fault.ShapeKind.TheVariants as kinds
-use Rattle.nego_shape.specs.Faults.{fault_on}
 use Rattle.nego_shape.specs.Naming.{PlacedOut, agent_names, sizes_in, all_outs, parties_at, cases_in}
 use Rattle.nego_shape.specs.Shaped.{IsDeclared, IsNamedParty, AreDifferent, case_names, assigned_names}
 use Rattle.nego_shape.specs.Made.{placed_at}
 use Rattle.nego_shape.proofs.ShapedCases.{cases_in-named, cases_in-once}
 use Rattle.nego_shape.proofs.PartsMade.{cases_read}
-use Rattle.nego_shape.proofs.SoundShape.{first_is}
-use Rattle.nego_data.proofs.Uncovered.{covered-none}
+use Rattle.nego_shape.proofs.RuleLists.{empty_uncovered}
+use Rattle.nego_shape.proofs.FirstUncovered.{told_uncovered}
 use Rattle.nego_shape.proofs.making.table.Goals as goal
 
 pub table-requires-clause-named : goal.table-requires-clause-named
@@ -56,8 +53,8 @@ returns-in-Ok-clause-total c =
     let c0 = content_of c.args.p.now in
     let cases : c.args.cases.now ≡ cases_in c0 (out_content c.args.out.now) =
     c.requires.cases ∙ cases_read c0 c.args.out.now.cases in
-    ap (option_map (λ d. fault_on c.args.out.now.name.line (kinds.NotTotal c.args.o d)))
-    (subst (λ (cs : List Case). first_uncovered (sizes_in c0) cs ≡ None) cases (subst (λ sizes. first_uncovered sizes c.args.cases.now ≡ None) c.requires.sizes (covered-none c.args.maker.now.sizes c.args.cases.now c.in-Ok.ensures.covered)))
+    empty_uncovered c0 c.args.o.0 c.args.out.now
+    (subst (λ (cs : List Case). AllCovered (sizes_in c0) cs) cases (subst (λ sizes. AllCovered sizes c.args.cases.now) c.requires.sizes c.in-Ok.ensures.covered))
 
 pub returns-in-Err-NotTotal-clause-err : goal.returns-in-Err-NotTotal-clause-err
 returns-in-Err-NotTotal-clause-err c =
@@ -67,5 +64,5 @@ returns-in-Err-NotTotal-clause-err c =
     let d = c.in-Err-NotTotal.d in
     let fault : IsFirstUncovered c.args.maker.now.sizes c.args.cases.now d =
     subst (HasTableFault c.args.maker.now.sizes c.args.cases.now) c.in-Err-NotTotal.field-0-is c.in-Err-NotTotal.ensures.err in
-    ap (option_map (λ e. fault_on c.args.out.now.name.line (kinds.NotTotal c.args.o e)))
-    (subst (λ (cs : List Case). first_uncovered (sizes_in c0) cs ≡ Some d) cases (subst (λ sizes. first_uncovered sizes c.args.cases.now ≡ Some d) c.requires.sizes (first_is c.args.maker.now.sizes c.args.cases.now d fault)))
+    told_uncovered c0 c.args.o.0 c.args.out.now d
+    (subst (λ (cs : List Case). IsFirstUncovered (sizes_in c0) cs d) cases (subst (λ sizes. IsFirstUncovered sizes c.args.cases.now d) c.requires.sizes fault))

@@ -1,48 +1,62 @@
-use Rattle.std.proofs.Common.{◌≡◌, ◌<◌, ℕ, List, length, map, get_or, sym, ap, subst, ◌∙◌}
-use Rattle.std.specs.List.{All, Contains}
-use Rattle.nego_base.specs.declared.line.Word.{Word}
+use Rattle.std.proofs.Common.{List, [], ◌∷◌, ◌++◌, sym, ap, subst, ◌∙◌}
+use Rattle.std.proofs.lemmas.Result.{err_from_is_err_and}
+use Rattle.std.specs.List.{flat_map}
 use Rattle.nego_reader.specs.declared.parsed.Parsed.{Parsed}
 use Rattle.nego_reader.specs.declared.parsed.PAtom.{PAtom}
-use Rattle.nego_reader.specs.declared.parsed.POut.{POut}
-use Rattle.nego_reader.specs.Content.{AtomContent, content_of, atom_content, out_content, texts}
-use Rattle.nego_shape.specs.Naming.{agent_names, all_outs, parties_in}
-use Rattle.nego_shape.specs.declared.numbers.OutNumbers.{OutNumbers}
-use Rattle.nego_shape.specs.declared.numbers.AtomNumbers.{AtomNumbers}
-use Rattle.nego_shape.specs.Shaped.{IsDeclared}
-use Rattle.nego_shape.specs.Made.{placed_at, out_numbers, atom_numbers}
-use Rattle.nego_shape.proofs.Gathering.{at_item, one_more_item}
-use Rattle.nego_shape.proofs.PartsMade.{outs_are_placed}
+use Rattle.nego_reader.specs.Content.{content_of}
+use Rattle.nego_shape.specs.declared.fault.ShapeKind.TheVariants as kinds
+use Rattle.nego_shape.specs.Faults.{of_words, others}
+use Rattle.nego_shape.specs.Answer.{Tells}
+use Rattle.nego_shape.specs.Naming.{atom_names}
+use Rattle.nego_shape.specs.Undeclared.{undeclared_in_atom, first_unknown}
+use Rattle.nego_shape.proofs.DeclaredParts.{none_all, told_front, told_behind, told_here, atoms_told, ends_told, none_of_text}
 use Rattle.nego_shape.proofs.numbers.atoms_numbers.Goals as goal
 
-pub party_set-requires-clause-declared : goal.party_set-requires-clause-declared
-party_set-requires-clause-declared c =
+pub returns-in_err-atom_of-clause-err : goal.returns-in_err-atom_of-clause-err
+returns-in_err-atom_of-clause-err c =
     let p = c.args.p.now in
     let c0 = content_of p in
-    let same = c.as_slice-atoms.ensures ∙ ap (λ (q : Parsed). q.atoms) c.text.ensures in
-    let below : c.loop-n.n < length p.atoms = subst (λ (atoms : List PAtom). c.loop-n.n < length atoms) same c.loop-n-test.true in
-    let is : c.index-atoms-n.result ≡ get_or p.atoms c.loop-n.n c.index-atoms-n.result = subst (λ (atoms : List PAtom). c.index-atoms-n.result ≡ get_or atoms c.loop-n.n c.index-atoms-n.result) same c.index-atoms-n.is in
-    subst (λ (ws : List Word). All (IsDeclared (agent_names c0)) (texts ws)) (sym c.as_slice.ensures)
-    (at_item (λ (atom : AtomContent). All (IsDeclared (agent_names c0)) atom.parties) atom_content p.atoms c.loop-n.n c.index-atoms-n.result c.requires.declared.parties below is)
+    let same = c.deref-atom-items.ensures ∙ ap (λ (q : Parsed). q.atoms) c.text-text.ensures in
+    let e = c.in_err-atom_of.field-0.0 in
+    let told = err_from_is_err_and c.from_residual.result c.from_residual.ensures.1 in
+    rw (told.1, told.2)
+    (atoms_told p e (subst (λ (xs : List PAtom). Tells e (first_unknown (flat_map (undeclared_in_atom c0) xs))) same
+    (told_here (undeclared_in_atom c0) c.deref-atom-items.result.now c.loop-atom.atom-index c.loop-atom.invariant.declared c.atom-item.result c.loop-atom-test.true c.atom-item.is e c.in_err-atom_of.ensures.declared)))
 
-pub outs_numbers-requires-clause-outs : goal.outs_numbers-requires-clause-outs
-outs_numbers-requires-clause-outs c =
-    let p = c.args.p.now in
-    let same = c.as_slice-atoms.ensures ∙ ap (λ (q : Parsed). q.atoms) c.text.ensures in
-    let below : c.loop-n.n < length p.atoms = subst (λ (atoms : List PAtom). c.loop-n.n < length atoms) same c.loop-n-test.true in
-    let is : c.index-atoms-n.result ≡ get_or p.atoms c.loop-n.n c.index-atoms-n.result = subst (λ (atoms : List PAtom). c.index-atoms-n.result ≡ get_or atoms c.loop-n.n c.index-atoms-n.result) same c.index-atoms-n.is in
-    subst (All (λ (out : POut). Contains (all_outs (content_of p)) (placed_at c.loop-n.n (out_content out)))) (sym c.as_slice-in-loop-n.ensures) (outs_are_placed p c.loop-n.n c.index-atoms-n.result below is)
-
-pub loop-n-preserved : goal.loop-n-preserved
-loop-n-preserved c =
+pub returns-in_err-declared_atom-clause-err : goal.returns-in_err-declared_atom-clause-err
+returns-in_err-declared_atom-clause-err c =
     let p = c.args.p.now in
     let c0 = content_of p in
-    let atom = c.index-atoms-n.result in
-    let same = c.as_slice-atoms.ensures ∙ ap (λ (q : Parsed). q.atoms) c.text.ensures in
-    let below : c.loop-n.n < length p.atoms = subst (λ (atoms : List PAtom). c.loop-n.n < length atoms) same c.loop-n-test.true in
-    let is : atom ≡ get_or p.atoms c.loop-n.n atom = subst (λ (atoms : List PAtom). atom ≡ get_or atoms c.loop-n.n atom) same c.index-atoms-n.is in
-    let parties = c.party_set.result in
-    let outs = c.in_ok-outs_numbers.field-0 in
-    let made : ◌≡◌ {A = AtomNumbers} (record { parties = parties; outs = outs }) (atom_numbers c0 atom) =
-    ap (λ (x : List ℕ). record { parties = x; outs = outs }) (c.party_set.ensures ∙ ap (λ (ws : List Word). parties_in c0 (texts ws)) c.as_slice.ensures)
-    ∙ ap (λ (x : List OutNumbers). record { parties = parties_in c0 (texts atom.parties); outs = x }) (c.in_ok-outs_numbers.ensures ∙ ap (map (out_numbers c0)) c.as_slice-in-loop-n.ensures) in
-    one_more_item (atom_numbers c0) p.atoms c.loop-n.n atom c.loop-n.made c.push.new.self (record { parties = parties; outs = outs }) below is made c.in_ok-push.ensures.ok c.loop-n.invariant
+    let same = c.deref-atom-items.ensures ∙ ap (λ (q : Parsed). q.atoms) c.text-text.ensures in
+    let none = none_all (undeclared_in_atom c0) c.deref-atom-items.result.now c.loop-atom.atom-index c.loop-atom.invariant.declared c.loop-atom-test.false in
+    let e = c.in_err-declared_atom.field-0.0 in
+    let told = err_from_is_err_and c.from_residual-in_err-declared_atom.result c.from_residual-in_err-declared_atom.ensures.1 in
+    rw (told.1, told.2)
+    (ends_told p e (ap (flat_map (undeclared_in_atom c0)) (sym same) ∙ none)
+    (told_front e (others (atom_names c0) (p.first ∷ [])) (others (atom_names c0) (p.last ∷ []) ++ [])
+    (subst (λ (q : Parsed). Tells e (first_unknown (others (atom_names c0) (q.first ∷ [])))) c.text-text.ensures c.in_err-declared_atom.ensures.declared)))
+
+pub returns-in_err-declared_atom-2-clause-err : goal.returns-in_err-declared_atom-2-clause-err
+returns-in_err-declared_atom-2-clause-err c =
+    let p = c.args.p.now in
+    let c0 = content_of p in
+    let same = c.deref-atom-items.ensures ∙ ap (λ (q : Parsed). q.atoms) c.text-text.ensures in
+    let none = none_all (undeclared_in_atom c0) c.deref-atom-items.result.now c.loop-atom.atom-index c.loop-atom.invariant.declared c.loop-atom-test.false in
+    let e = c.in_err-declared_atom-2.field-0.0 in
+    let told = err_from_is_err_and c.from_residual-in_err-declared_atom-2.result c.from_residual-in_err-declared_atom-2.ensures.1 in
+    rw (told.1, told.2)
+    (ends_told p e (ap (flat_map (undeclared_in_atom c0)) (sym same) ∙ none)
+    (told_behind e (others (atom_names c0) (p.first ∷ [])) (others (atom_names c0) (p.last ∷ []) ++ [])
+    (ap (λ (q : Parsed). others (atom_names c0) (q.first ∷ [])) (sym c.text-text.ensures) ∙ c.in_ok-declared_atom.ensures.declared)
+    (told_front e (others (atom_names c0) (p.last ∷ [])) []
+    (subst (λ (q : Parsed). Tells e (first_unknown (others (atom_names c0) (q.last ∷ [])))) c.text-text.ensures c.in_err-declared_atom-2.ensures.declared))))
+
+pub returns-clause-declared : goal.returns-clause-declared
+returns-clause-declared c =
+    let p = c.args.p.now in
+    let c0 = content_of p in
+    let same = c.deref-atom-items.ensures ∙ ap (λ (q : Parsed). q.atoms) c.text-text.ensures in
+    let none = none_all (undeclared_in_atom c0) c.deref-atom-items.result.now c.loop-atom.atom-index c.loop-atom.invariant.declared c.loop-atom-test.false in
+    ap (of_words kinds.Unknown)
+    (none_of_text p (ap (flat_map (undeclared_in_atom c0)) (sym same) ∙ none) (ap (λ (q : Parsed). others (atom_names c0) (q.first ∷ [])) (sym c.text-text.ensures) ∙ c.in_ok-declared_atom.ensures.declared)
+    (ap (λ (q : Parsed). others (atom_names c0) (q.last ∷ [])) (sym c.text-text.ensures) ∙ c.in_ok-declared_atom-2.ensures.declared))

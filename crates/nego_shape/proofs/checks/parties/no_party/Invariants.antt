@@ -1,7 +1,11 @@
-use Rattle.std.proofs.Common.{◌≡◌, drop}
-use Rattle.nego_base.specs.Firsts.{first_numbered}
-use Rattle.nego_shape.specs.Faults.{no_party_at}
+use Rattle.std.proofs.Common.{◌≡◌, ℕ, ◌==◌, List, length, drop}
+use Rattle.nego_reader.specs.declared.parsed.PAtom.{PAtom}
+use Rattle.nego_shape.specs.declared.fault.ShapeKind.TheVariants as kinds
+use Rattle.nego_shape.specs.Faults.{Spot, spot_if, numbered, first_of}
 use Rattle.nego_shape.proofs.checks.parties.no_party.Given as goal
 
-abbrev pub invariant-loop-i : goal.invariant-loop-i
-invariant-loop-i l = first_numbered no_party_at l.i (drop l.i l.atoms) ≡ first_numbered no_party_at 0 l.atoms
+abbrev bare : ℕ → PAtom → List Spot
+bare n atom = spot_if (length atom.parties == 0) atom.name.line (kinds.NoParty (record { 0 = n }))
+
+abbrev pub invariant-loop-n : goal.invariant-loop-n
+invariant-loop-n l = first_of (numbered bare l.n (drop l.n l.atoms)) ≡ first_of (numbered bare 0 l.atoms)

@@ -7,10 +7,9 @@ use Rattle.nego_shape.proofs.numbering.Numbered.atom.Goals as goal
 
 pub number_of-requires : goal.number_of-requires
 number_of-requires c =
-    let same : c.self.inside.atoms.keys ≡ atom_names (content_of c.args.self.now) = c.self.invariant.1 ∙ ap (λ (p : Parsed). atom_names (content_of p)) c.self.view_is in
-    let long = ap length same in
-    let few = c.requires.few_atoms in
-    let count = atoms-count (content_of c.args.self.now) in
+    let long = ap length c.self.invariant.1 in
+    let few = c.self.invariant.3 in
+    let count = atoms-count (content_of c.self.inside.text.now) in
     omega (arith, long, few, count)
 
 pub returns : goal.returns

@@ -1,0 +1,9 @@
+use Rattle.std.proofs.Common.{◌≡◌, drop}
+use Rattle.nego_base.specs.Firsts.{first_among}
+use Rattle.nego_reader.specs.Content.{content_of}
+use Rattle.nego_shape.specs.Faults.{first_of}
+use Rattle.nego_shape.specs.Rules.{case_faults}
+use Rattle.nego_shape.proofs.checks.outcomes.on_cases.Given as goal
+
+abbrev pub invariant-loop-i : goal.invariant-loop-i
+invariant-loop-i l = first_among (λ case. first_of (case_faults l.rule (content_of l.p) l.n l.o case)) (drop l.i l.case-items) ≡ first_among (λ case. first_of (case_faults l.rule (content_of l.p) l.n l.o case)) l.out.cases
