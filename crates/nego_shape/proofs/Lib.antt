@@ -26,7 +26,7 @@ mod OutLists
 mod RuleLists
 mod Telling
 mod FirstUncovered
-mod Stages
+pub mod Stages
 mod AllListed
 mod FormLaws
 mod InnerStage
